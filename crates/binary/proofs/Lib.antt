@@ -1,0 +1,5 @@
+pub mod Span
+pub mod Linear
+pub mod Basis
+pub mod Lookup
+pub mod Instances
