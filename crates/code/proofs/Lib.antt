@@ -1,0 +1,14 @@
+pub mod Makes
+pub mod Filled
+pub mod Views
+pub mod Sums
+pub mod Rows
+pub mod Ring
+pub mod Degrees
+pub mod Curves
+pub mod Carried
+pub mod Elements
+pub mod Whole
+pub mod Missing
+pub mod Settling
+pub mod Recovery

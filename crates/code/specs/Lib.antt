@@ -1,0 +1,9 @@
+pub mod Nodes
+pub mod Plans
+pub mod Packets
+pub mod Rows
+pub mod Faults
+pub mod Making
+pub mod Cutting
+pub mod Solving
+pub mod Settles
