@@ -1,0 +1,5 @@
+pub mod Requests
+pub mod Laying
+pub mod Behind
+pub mod Counting
+pub mod Answering
