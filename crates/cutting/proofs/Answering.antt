@@ -4,8 +4,7 @@ use mathlib.Core.List.{List, [], _∷_}
 use mathlib.Core.Path.{_≡_, refl, sym, ap, ap₂, subst, _∙_}
 use Prim.Native.Nat.{ℕ, _+_, _*_, _<_, _≤_}
 use native.Mathlib.Omega.{arith}
-use lib.Dec.{eqb, leb}
-use lib.ListN.{length, replicate}
+use lib.ListN.{length}
 use Rattle.std.specs.Of.Vec.{vec-items}
 use Rattle.std.specs.Options.{mapped}
 use Rattle.std.specs.declared.alloc.Global.{Global}
@@ -15,19 +14,17 @@ use Rattle.std.specs.declared.result.Result.{Result}
 use Rattle.std.specs.declared.result.Result.the-variants.{Ok, Err}
 use Rattle.std.specs.declared.vec.Vec.{Vec}
 use Rattle.std.specs.shelf.Lists.{All}
-use Rattle.std.proofs.shelf.Lists.{length-replicate}
-use Rattle.checks.specs.Checks.{unless, first, answered, left}
+use Rattle.checks.specs.Checks.{first, answered, left}
 use Rattle.checks.specs.declared.fault.Fault.{Fault}
-use Rattle.checks.proofs.Order.{skip, stop, last, answered-ok, answered-err, left-none}
+use Rattle.checks.proofs.Order.{skip, last, answered-ok, answered-err, left-none}
 use Rattle.code.specs.Faults.{plan-fault}
 use Rattle.code.specs.Plans.{PlanView, view}
 use Rattle.code.specs.declared.plan.Plan.{Plan}
 use Rattle.field.specs.Field.{Ops}
-use Rattle.job.specs.Calls.{pack-checks, total, capacity-of, Packing}
+use Rattle.job.specs.Calls.{pack-checks, total, Packing}
 use Rattle.job.specs.Faults.{job-fault}
 use Rattle.job.specs.Packing.{packed}
 use Rattle.job.specs.declared.fault.JobFault.{JobFault}
-use Rattle.job.specs.declared.fault.JobFault.the-variants.{Count, Capacity}
 use Rattle.job.proofs.Elements.{packed-elements}
 use Rattle.packet.specs.declared.Job.{Job}
 use Rattle.cutting.specs.Answers.{Answers, request-plan, request-fault, request-packets, field-of, input-fault, input-packets}
@@ -37,11 +34,6 @@ use Rattle.cutting.specs.declared.request.FieldChoice.{FieldChoice}
 use Rattle.cutting.specs.declared.cut.CutError.{CutError}
 use Rattle.cutting.specs.declared.cut.CutError.the-variants.{Refused, Memory}
 
--- packing looks at nothing of the buffer but its length
-checks-same : (p r : PlanView) (job xs ys : List ℕ) → p ≡ r → length xs ≡ length ys → pack-checks p job xs ≡ pack-checks r job ys
-checks-same p r job xs ys same long =
-    ap₂ (λ (t : PlanView) (n : ℕ). unless (eqb n (total t)) (Count (total t)) ∷ unless (leb (length job) (capacity-of t)) (Capacity (capacity-of t)) ∷ []) same long
-
 pub refused-as : (fault : Option Fault) (bytes : List ℕ) (r : Result (Vec ℕ Global) CutError) (f : Fault) → r ≡ Err (Refused f) → fault ≡ Some f → Answers fault bytes r
 refused-as fault bytes r f is e = subst (Answers fault bytes) (sym is) e
 
@@ -49,23 +41,17 @@ refused-as fault bytes r f is e = subst (Answers fault bytes) (sym is) e
 module _ (o : Ops) (a : RequestView) (plan : Plan)
     (planned : Planned (cutter-checks (o .size) (a .m) (a .r) (a .L)) (cutter-plan (o .size) (a .m) (a .r) (a .L)) (Ok plan))
     {old new : List ℕ} (r : Result (Unit {0}) JobFault) (packing : Packing plan (a .job) old new r) (sized : length old ≡ total (view plan)) where
-  zeros : List ℕ
-  zeros = replicate (total (request-plan o a)) 0
-
-  same-checks : pack-checks (view plan) (a .job) old ≡ pack-checks (request-plan o a) (a .job) zeros
-  unfolding zeros
-  same-checks = checks-same (view plan) (request-plan o a) (a .job) old zeros (planned .1) (sized ∙ ap total (planned .1) ∙ sym (length-replicate (total (request-plan o a)) 0))
-
-  by-job : request-fault o a ≡ mapped job-fault (first (pack-checks (view plan) (a .job) old))
-  unfolding zeros
-  by-job = skip _ _ (ap (mapped plan-fault) (planned .0)) ∙ last _ ∙ ap (λ os. mapped job-fault (first os)) (sym same-checks)
+  by-job : request-fault o a ≡ mapped job-fault (first (pack-checks (view plan) (length (a .job)) (length old)))
+  by-job =
+      skip _ _ (ap (mapped plan-fault) (planned .0)) ∙ last _
+      ∙ sym (ap₂ (λ t n. mapped job-fault (first (pack-checks t (length (a .job)) n))) (planned .1) (sized ∙ ap total (planned .1)))
 
   pub job-refused : (e : JobFault) → r ≡ Err e → request-fault o a ≡ Some (job-fault e)
-  job-refused e was = by-job ∙ ap (mapped job-fault) (answered-err (first (pack-checks (view plan) (a .job) old)) e tt (sym was ∙ packing .answers))
+  job-refused e was = by-job ∙ ap (mapped job-fault) (answered-err (first (pack-checks (view plan) (length (a .job)) (length old))) e tt (sym was ∙ packing .answers))
 
   module _ (u : Unit {0}) (was : r ≡ Ok u) where
-    none : first (pack-checks (view plan) (a .job) old) ≡ None
-    none = answered-ok (first (pack-checks (view plan) (a .job) old)) u tt (sym was ∙ packing .answers) .0
+    none : first (pack-checks (view plan) (length (a .job)) (length old)) ≡ None
+    none = answered-ok (first (pack-checks (view plan) (length (a .job)) (length old))) u tt (sym was ∙ packing .answers) .0
 
     packed-message : new ≡ packed (view plan .q) (a .job) (total (view plan))
     packed-message = packing .leaves ∙ left-none _ old _ none

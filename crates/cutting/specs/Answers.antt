@@ -7,7 +7,7 @@
 use mathlib.Core.List.{List, [], _∷_}
 use mathlib.Core.Path.{_≡_}
 use Prim.Native.Nat.{ℕ, _*_}
-use lib.ListN.{length, replicate}
+use lib.ListN.{length}
 use Rattle.std.specs.Of.Vec.{vec-items}
 use Rattle.std.specs.Options.{mapped}
 use Rattle.std.specs.declared.alloc.Global.{Global}
@@ -52,7 +52,7 @@ request-plan o a = cutter-plan (o .size) (a .m) (a .r) (a .L)
 abbrev pub request-fault : Ops → RequestView → Option Fault
 request-fault o a = first (
     mapped plan-fault (first (cutter-checks (o .size) (a .m) (a .r) (a .L)))
-    ∷ mapped job-fault (first (pack-checks (request-plan o a) (a .job) (replicate (total (request-plan o a)) 0)))
+    ∷ mapped job-fault (first (pack-checks (request-plan o a) (length (a .job)) (total (request-plan o a))))
     ∷ []
     )
 
