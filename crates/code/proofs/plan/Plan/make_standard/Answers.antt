@@ -14,5 +14,5 @@ ghost-self g c =
     let all = c .powers .result in
     let room = c .powers .ensures .room in
     let elements = powers-elements laws _ (m + r) all (c .powers .ensures .answers) _ (c .size .ensures) in
-    let apart = powers-apart laws _ (m + r) all (c .powers .ensures .answers) _ (c .step-step .ensures .steps) (c .if-count-period .left) in
+    let apart = powers-apart laws _ (m + r) all (c .powers .ensures .answers) _ (c .step-step .ensures .steps) (omega arith) in
     (omega arith, (omega arith, (omega arith, (omega arith, (omega arith, (omega arith, (omega arith, (omega arith, (room, (elements, (apart, tt)))))))))))
