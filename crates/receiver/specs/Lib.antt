@@ -1,0 +1,9 @@
+pub mod Faults
+pub mod Shelves
+pub mod Machine
+pub mod States
+pub mod Runs
+pub mod Receivers
+pub mod Examining
+pub mod Solves
+pub mod Calls
