@@ -1,9 +1,9 @@
 -- Which check of offered bytes decides, before they are compared with what is accepted. Assumes nothing.
 use mathlib.Core.List.{List, [], _∷_}
-use mathlib.Core.Path.{_≡_, refl, sym, _∙_, ap, subst}
-use Prim.Native.Nat.{ℕ, _+_, _*_, _<_, _≤_}
+use mathlib.Core.Path.{_≡_, sym, _∙_, ap, subst}
+use Prim.Native.Nat.{ℕ, _+_, _<_, _≤_}
 use native.Mathlib.Omega.{arith}
-use lib.Dec.{eqb, ltb}
+use lib.Dec.{eqb}
 use lib.ListN.{length, drop}
 use Rattle.std.specs.Options.{mapped}
 use Rattle.std.specs.declared.option.Option.{Option}
@@ -16,7 +16,7 @@ use Rattle.checks.proofs.Order.{none-some, unless-none, unless-true, unless-fal
 use Rattle.code.specs.Plans.{PlanView}
 use Rattle.field.specs.Field.{Ops}
 use Rattle.packet.specs.Bytes.{word, ReadFrom}
-use Rattle.packet.specs.Layout.{header-length, number-at, packet-length, Headed, carried}
+use Rattle.packet.specs.Layout.{header-length, number-at, Headed, carried}
 use Rattle.packet.specs.Opening.{opening}
 use Rattle.packet.specs.declared.Job.{Job}
 use Rattle.packet.specs.declared.fault.PacketFault.{PacketFault}
@@ -25,7 +25,7 @@ use Rattle.packet.proofs.Opening.{opens-headed}
 use Rattle.receiver.specs.Examining.{front-checks, Examined}
 use Rattle.receiver.specs.Machine.{job-checks}
 use Rattle.receiver.specs.declared.fault.ReceiverFault.{ReceiverFault}
-use Rattle.receiver.specs.declared.fault.ReceiverFault.the-variants.{Packet as InPacket, OtherField, Symbol, Number, OtherJob}
+use Rattle.receiver.specs.declared.fault.ReceiverFault.the-variants.{Packet as InPacket, Symbol, Number, OtherJob}
 
 module _ (o : Ops) (p : PlanView) (j : Job) (bs : List ℕ) where
   abbrev here : Option ReceiverFault

@@ -1,13 +1,13 @@
 -- Keeping a packet, by the fields of a receiver. Assumes nothing.
 use mathlib.Core.List.{List}
-use mathlib.Core.Path.{_≡_, refl, sym, _∙_, ap, subst}
+use mathlib.Core.Path.{_≡_, sym, _∙_, ap, subst}
 use Prim.Native.Nat.{ℕ, _+_, _*_, _<_, _≤_}
 use native.Mathlib.Omega.{arith}
 use lib.ListN.{length, take, set}
 use Rattle.std.proofs.shelf.Lists.{length-set}
 use Rattle.code.specs.Plans.{PlanView, Sound}
 use Rattle.code.proofs.Views.{sound-of}
-use Rattle.receiver.specs.Machine.{State, count}
+use Rattle.receiver.specs.Machine.{count}
 use Rattle.receiver.specs.Receivers.{state, plan-of, state-of, kept}
 use Rattle.receiver.specs.Shelves.{shelved, row-on, with-row}
 use Rattle.receiver.specs.States.{Reached}

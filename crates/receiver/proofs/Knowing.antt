@@ -1,10 +1,9 @@
 -- What a receiver knows of a row, by its fields. Assumes nothing.
-use mathlib.Core.Bool.{Bool, true, false, cond}
+use mathlib.Core.Bool.{true, false}
 use mathlib.Core.List.{List, [], _∷_, map}
 use mathlib.Core.Path.{_≡_, refl, sym, _∙_, ap, ap₂, subst}
-use Prim.Native.Nat.{ℕ, zero, suc, _+_, _-_, _*_, _<_, _≤_, min}
+use Prim.Native.Nat.{ℕ, zero, suc, _-_, _*_, _<_, _≤_, min}
 use native.Mathlib.Omega.{arith}
-use lib.Dec.{eqb}
 use lib.ListN.{length, take, getD}
 use Rattle.std.specs.Iters.{counting}
 use Rattle.std.specs.declared.option.Option.{Option}
@@ -18,7 +17,7 @@ use Rattle.code.specs.Plans.{PlanView}
 use Rattle.code.specs.Rows.{Packet, row, Explains}
 use Rattle.field.specs.Field.{Ops}
 use Rattle.receiver.specs.Examining.{Knows}
-use Rattle.receiver.specs.Machine.{State, settled, find, or-else, known}
+use Rattle.receiver.specs.Machine.{find, or-else, known}
 use Rattle.receiver.specs.Receivers.{packet-at, state, plan-of, state-of}
 use Rattle.receiver.specs.Shelves.{shelved, row-on}
 use Rattle.receiver.specs.Solves.{packets, Given, Lacks, First, Row-of}

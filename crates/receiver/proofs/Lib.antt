@@ -22,5 +22,6 @@ pub mod Growing
 pub mod Settled
 pub mod Replays
 pub mod Knowing
+pub mod Offering
 pub mod Answering
 pub mod Making

@@ -16,10 +16,10 @@ use Rattle.code.specs.Plans.{PlanView, Sound}
 use Rattle.field.specs.Field.{Ops, Lawful}
 use Rattle.packet.specs.declared.Job.{Job}
 use Rattle.receiver.specs.Calls.{event, events, Alike, All-alike, Makes, Ran}
-use Rattle.receiver.specs.Machine.{State, opened, Step}
+use Rattle.receiver.specs.Machine.{opened, Step}
 use Rattle.receiver.specs.Machine as machine
 use Rattle.receiver.specs.Receivers.{plan-of, job-of, state-of, read-answer, rebuild-answer, Answers, Keeps}
-use Rattle.receiver.specs.Runs.{Event, Bytes, Runs}
+use Rattle.receiver.specs.Runs.{Bytes, Runs}
 use Rattle.receiver.specs.declared.fault.ReceiverFault.{ReceiverFault}
 use Rattle.receiver.specs.declared.receiver.Receiver.{Receiver}
 use Rattle.receiver.specs.declared.run.Call.{Call}

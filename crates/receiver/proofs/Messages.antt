@@ -1,11 +1,11 @@
 -- A message that is written row by row. Assumes nothing.
 use mathlib.Core.List.{List, _++_}
-use mathlib.Core.Path.{_≡_, refl, sym, _∙_, ap, subst}
+use mathlib.Core.Path.{_≡_, sym, _∙_, ap, subst}
 use Prim.Native.Nat.{ℕ, _+_, _-_, _*_, _/_, _%_, _<_, _≤_}
 use native.Mathlib.Omega.{arith}
 use borrow.Author.Count.{below-more}
 use borrow.Rule.Slice.PartMut.{putMid, postOf}
-use lib.ListN.{length, take, drop}
+use lib.ListN.{length, take}
 use Rattle.std.proofs.shelf.Bits.{div-below, mod-below, div-add-mod'}
 use Rattle.std.proofs.shelf.Lists.{length-take-le, take-at, drop-at}
 use Rattle.std.proofs.shelf.Parts.{take-putMid-below}

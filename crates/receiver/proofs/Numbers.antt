@@ -1,6 +1,6 @@
 -- Numbers that are, and are not, among others. Assumes nothing.
 use mathlib.Core.Bool.{Bool, true, false, _||_}
-use mathlib.Core.List.{List, [], _∷_, _++_, map}
+use mathlib.Core.List.{List, [], _∷_, _++_}
 use mathlib.Core.Path.{_≡_, refl, sym, ap, _∙_}
 use Prim.Native.Nat.{ℕ, _+_, _<_, _≤_}
 use native.Mathlib.Omega.{arith}
@@ -8,7 +8,7 @@ use lib.Dec.{eqb}
 use lib.ListN.{length, take, drop}
 use Rattle.std.specs.shelf.Lists.{All}
 use Rattle.std.proofs.shelf.Lists.{take-more, take-take, take-append-drop}
-use Rattle.std.proofs.shelf.Tests.{cases-bool, eqb-false, eqb-true, ne-eqb, eq-eqb, or-parts, or-from, or-right, or-left}
+use Rattle.std.proofs.shelf.Tests.{eqb-false, ne-eqb, eq-eqb, or-parts, or-from, or-left}
 use Rattle.checks.specs.Checks.{at}
 use Rattle.receiver.specs.Machine.{has}
 

@@ -1,27 +1,25 @@
 -- What a receiver's fields say of the state that it holds, and what that state says of them. Assumes nothing.
-use mathlib.Core.List.{List, [], _∷_, _++_, map}
-use mathlib.Core.Path.{_≡_, refl, sym, _∙_, ap, subst}
+use mathlib.Core.List.{List, [], _∷_}
+use mathlib.Core.Path.{_≡_, sym, _∙_, ap, subst}
 use Prim.Native.Nat.{ℕ, zero, suc, _+_, _*_, _/_, _%_, _<_, _≤_, min}
 use native.Mathlib.Nat.{add-mul, one-mul}
 use native.Mathlib.Omega.{arith}
 use lib.ListN.{length, take, drop}
-use Rattle.std.specs.Iters.{counting}
 use Rattle.std.specs.shelf.Lists.{All}
 use Rattle.std.proofs.shelf.Bits.{mul-le, div-below, mod-below, div-add-mod'}
 use Rattle.std.proofs.shelf.Counted.{length-map-counting, getD-map-counting}
 use Rattle.std.proofs.shelf.Elements.{all-getD, all-from-getD}
-use Rattle.std.proofs.shelf.Lists.{getD-take, getD-drop, length-take, length-take-le, length-drop, drop-all}
+use Rattle.std.proofs.shelf.Lists.{getD-take, getD-drop, length-take-le, length-drop, drop-all}
 use Rattle.checks.specs.Checks.{at}
 use Rattle.code.specs.Nodes as nodes
 use Rattle.code.specs.Plans.{PlanView, Sound}
-use Rattle.code.specs.Rows.{Packet}
 use Rattle.code.specs.Settles.{Good}
 use Rattle.code.proofs.Rows.{row-within}
 use Rattle.code.proofs.Views.{sound-of}
 use Rattle.receiver.specs.Machine.{State, count}
 use Rattle.receiver.specs.Receivers.{packet-at, state, plan-of, state-of}
 use Rattle.receiver.specs.Shelves.{shelved, row-on}
-use Rattle.receiver.specs.States.{Unlike, numbers-of, Reached}
+use Rattle.receiver.specs.States.{Unlike, Reached}
 use Rattle.receiver.specs.declared.receiver.Receiver.{Receiver}
 use Rattle.receiver.proofs.Shelves.{numbers-state, count-state}
 

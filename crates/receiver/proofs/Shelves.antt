@@ -1,9 +1,8 @@
 -- What the parts of a receiver say of the state that it holds. Assumes nothing.
-use mathlib.Core.Bool.{Bool, true, false, cond, _||_}
-use mathlib.Core.List.{List, [], _∷_, _++_, map}
+use mathlib.Core.List.{List, _++_, map}
 use mathlib.Core.Logic.{inl, inr}
-use mathlib.Core.Path.{_≡_, refl, sym, _∙_, ap, ap₂}
-use Prim.Native.Nat.{ℕ, _+_, _-_, _*_, _<_, _≤_, min}
+use mathlib.Core.Path.{_≡_, sym, _∙_, ap, ap₂}
+use Prim.Native.Nat.{ℕ, _+_, _≤_, min}
 use native.Mathlib.Omega.{arith}
 use lib.ListN.{length, take, drop}
 use lib.Seq.{drop-nil}
@@ -13,8 +12,7 @@ use Rattle.std.proofs.shelf.Lanes.{map-map}
 use Rattle.std.proofs.shelf.Tests.{cases-lt}
 use Rattle.std.proofs.shelf.Lists.{getD-take, length-take, length-drop, take-take, take-append-drop, drop-all, append-nil}
 use Rattle.checks.specs.Checks.{at}
-use Rattle.code.specs.Rows.{Packet}
-use Rattle.receiver.specs.Machine.{State, opened, count, heard, has}
+use Rattle.receiver.specs.Machine.{opened, count, heard, has}
 use Rattle.receiver.specs.Receivers.{packet-at, state}
 use Rattle.receiver.specs.States.{numbers-of}
 use Rattle.receiver.proofs.Numbers.{has-append}

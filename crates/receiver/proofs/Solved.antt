@@ -1,10 +1,9 @@
 -- Rows solved from the rows of m packets are those of every message that fits them. Assumes nothing.
-use mathlib.Core.List.{List, [], _∷_, _++_, map}
+use mathlib.Core.List.{List, [], _∷_}
 use mathlib.Core.Path.{_≡_, refl, sym, _∙_, ap, subst}
 use Prim.Native.Nat.{ℕ, zero, suc, _+_, _-_, _*_, _<_, _≤_}
 use native.Mathlib.Omega.{arith}
 use lib.ListN.{length, take, drop, getD}
-use Rattle.std.specs.Iters.{counting}
 use Rattle.std.specs.shelf.Lists.{All, between}
 use Rattle.std.proofs.shelf.Counted.{length-map-counting, getD-map-counting}
 use Rattle.std.proofs.shelf.Elements.{all-getD, all-from-getD}
@@ -18,7 +17,7 @@ use Rattle.code.proofs.Rows.{row-within}
 use Rattle.code.proofs.Settling.{some-message}
 use Rattle.code.proofs.Sums.{dot-same}
 use Rattle.field.specs.Field.{Ops, Lawful}
-use Rattle.field.specs.Rows.{numbers, symbol, Combined}
+use Rattle.field.specs.Rows.{numbers, Combined}
 use Rattle.receiver.specs.Receivers.{packet-at}
 use Rattle.receiver.specs.Shelves.{row-on}
 use Rattle.receiver.specs.Solves.{packets, Given, Parts, Lacks, First, Row-of}

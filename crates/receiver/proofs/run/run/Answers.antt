@@ -1,4 +1,4 @@
-use mathlib.Core.Path.{_≡_, refl, sym, _∙_, ap, subst}
+use mathlib.Core.Path.{refl}
 use mathlib.Core.List.{[], _∷_}
 use native.Mathlib.Omega.{arith}
 use borrow.Author.Needs.{needs}
@@ -6,7 +6,6 @@ use Rattle.std.proofs.shelf.Lists.{take-all}
 use Rattle.std.proofs.shelf.Parts.{pushed}
 use Rattle.code.specs.Plans.{view}
 use Rattle.code.proofs.Views.{sound-of}
-use Rattle.receiver.specs.Calls.{Ran}
 use Rattle.receiver.specs.Receivers.{job-of}
 use Rattle.receiver.proofs.Making.{going-none, going-more, ran}
 use Rattle.receiver.proofs.run.run.Needs as need

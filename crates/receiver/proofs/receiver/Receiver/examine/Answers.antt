@@ -1,10 +1,10 @@
-use mathlib.Core.Path.{_≡_, refl, sym, _∙_, ap}
+use mathlib.Core.Path.{sym, _∙_, ap}
 use native.Mathlib.Omega.{arith}
 use lib.ListN.{length}
 use Rattle.std.proofs.shelf.Results.{err-from-errBy}
 use Rattle.checks.specs.Checks.{lowest, too-large}
 use Rattle.checks.proofs.Order.{answered-ok, answered-err}
-use Rattle.packet.specs.Opening.{opening, opened, viewed}
+use Rattle.packet.specs.Opening.{viewed}
 use Rattle.receiver.specs.Receivers.{plan-of}
 use Rattle.receiver.proofs.Examining.{not-opened, not-ours, row-carried, no-number, too-big, passes}
 use Rattle.receiver.proofs.receiver.Receiver.examine.Needs as need
@@ -30,8 +30,10 @@ returns-in-Some-first-large g c =
     let ok = answered-ok _ _ _ (sym (ap viewed (c .in-Continue-packet .was tt)) ∙ c .«open» .ensures) in
     let p = plan-of (c .args .self .now) in
     let row = c .symbols-of .last .row in
-    too-big _ _ _ _ (omega arith) (ok .0) (c .in-rest .ensures tt) (c .number-number .result) (c .number-number .ensures ∙ ap (λ k. k .number) (ok .1)) (omega arith) row
-    (row-carried (g .F·Field .ops (c .args .field .now)) p (c .args .self .now .job) (c .args .bytes .now) (omega arith) (ok .0) (c .in-rest .ensures tt) (c .row .result .now) row (c .row .ensures ∙ ap (λ k. k .row) (ok .1)) (c .symbols-of .ensures) (omega (arith, c .symbols-of .kept .row)))
+    too-big _ _ _ _ (omega arith) (ok .0) (c .in-rest .ensures tt) (c .number-number .result)
+    (c .number-number .ensures ∙ ap (λ k. k .number) (ok .1)) (omega arith) row
+    (row-carried (g .F·Field .ops (c .args .field .now)) p (c .args .self .now .job) (c .args .bytes .now) (omega arith) (ok .0) (c .in-rest .ensures tt)
+    (c .row .result .now) row (c .row .ensures ∙ ap (λ k. k .row) (ok .1)) (c .symbols-of .ensures) (omega (arith, c .symbols-of .kept .row)))
     _ (c .in-Some-first-large .ensures tt ∙ ap (λ q. lowest (too-large q row) (length row)) (c .size-3 .ensures .answers))
 
 pub returns : need.returns
@@ -39,6 +41,8 @@ returns g c =
     let ok = answered-ok _ _ _ (sym (ap viewed (c .in-Continue-packet .was tt)) ∙ c .«open» .ensures) in
     let p = plan-of (c .args .self .now) in
     let row = c .symbols-of .last .row in
-    passes _ _ _ _ (omega arith) (ok .0) (c .in-rest .ensures tt) (c .number-number .result) (c .number-number .ensures ∙ ap (λ k. k .number) (ok .1)) (omega arith) row
-    (row-carried (g .F·Field .ops (c .args .field .now)) p (c .args .self .now .job) (c .args .bytes .now) (omega arith) (ok .0) (c .in-rest .ensures tt) (c .row .result .now) row (c .row .ensures ∙ ap (λ k. k .row) (ok .1)) (c .symbols-of .ensures) (omega (arith, c .symbols-of .kept .row)))
+    passes _ _ _ _ (omega arith) (ok .0) (c .in-rest .ensures tt) (c .number-number .result)
+    (c .number-number .ensures ∙ ap (λ k. k .number) (ok .1)) (omega arith) row
+    (row-carried (g .F·Field .ops (c .args .field .now)) p (c .args .self .now .job) (c .args .bytes .now) (omega arith) (ok .0) (c .in-rest .ensures tt)
+    (c .row .result .now) row (c .row .ensures ∙ ap (λ k. k .row) (ok .1)) (c .symbols-of .ensures) (omega (arith, c .symbols-of .kept .row)))
     (c .in-rest-first-large .ensures tt ∙ ap (λ q. lowest (too-large q row) (length row)) (c .size-3 .ensures .answers))

@@ -2,7 +2,7 @@ use mathlib.Core.Path.{refl}
 use native.Mathlib.Omega.{arith}
 use Rattle.receiver.specs.Receivers.{plan-of}
 use Rattle.receiver.proofs.Reaches.{shelf-end}
-use Rattle.receiver.proofs.Kept.{Kept, fewer, late, early}
+use Rattle.receiver.proofs.Kept.{fewer, late, early}
 use Rattle.receiver.proofs.receiver.Receiver.keep.Needs as need
 use Rattle.receiver.proofs.receiver.Receiver.keep.Needs.{then-self-data-count, else-self-data-count}
 

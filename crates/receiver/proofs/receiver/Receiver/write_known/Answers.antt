@@ -1,5 +1,5 @@
-use mathlib.Core.Path.{_≡_, refl, sym, _∙_, ap}
-use Prim.Native.Nat.{_-_}
+use mathlib.Core.Path.{sym, _∙_, ap}
+use Prim.Native.Nat.{_-_, _<_}
 use native.Mathlib.Omega.{arith}
 use lib.ListN.{length}
 use Rattle.std.proofs.shelf.Lists.{length-take}
@@ -30,16 +30,16 @@ returns-then-self-data-count g c =
 pub row-requires : need.row-requires
 row-requires g c κs =
     let r = c .args .self .now in
-    let has = c .in-Some .ensures tt in
-    record { within = rw (c .row-len .ensures .answers) (shelf-end (c .in-Some .t) (view (r .plan) .L) (omega (arith, has .within, length-take (r .count - 0) (r .numbers), r .plan .«few_data»)) (r .plan .«few_symbols»)) }
+    let few : c .in-Some .t < 64 = omega (arith, (c .in-Some .ensures tt) .within, length-take (r .count - 0) (r .numbers), r .plan .«few_data») in
+    record { within = rw (c .row-len .ensures .answers) (shelf-end (c .in-Some .t) (view (r .plan) .L) few (r .plan .«few_symbols»)) }
 
 pub copy-from-slice-requires : need.copy-from-slice-requires
 copy-from-slice-requires g c κs =
     let r = c .args .self .now in
-    let has = c .in-Some .ensures tt in
-    let end = shelf-end (c .in-Some .t) (view (r .plan) .L) (omega (arith, has .within, length-take (r .count - 0) (r .numbers), r .plan .«few_data»)) (r .plan .«few_symbols») in
-    c .pre .fits ∙ sym (ap length (c .row .ensures ∙ ap (row-on (shelved (r .shelf)) (c .in-Some .t)) (c .row-len .ensures .answers))
-    ∙ length-row-on (shelved (r .shelf)) (c .in-Some .t) (view (r .plan) .L) (omega (arith, end, r .whole)))
+    let few : c .in-Some .t < 64 = omega (arith, (c .in-Some .ensures tt) .within, length-take (r .count - 0) (r .numbers), r .plan .«few_data») in
+    let end = shelf-end (c .in-Some .t) (view (r .plan) .L) few (r .plan .«few_symbols») in
+    let row = c .row .ensures ∙ ap (row-on (shelved (r .shelf)) (c .in-Some .t)) (c .row-len .ensures .answers) in
+    c .pre .fits ∙ sym (ap length row ∙ length-row-on (shelved (r .shelf)) (c .in-Some .t) (view (r .plan) .L) (omega (arith, end, r .whole)))
 
 pub returns-in-Some : need.returns-in-Some
 returns-in-Some g c =
