@@ -1,62 +1,117 @@
-// The bridge: what arrives of the packets that were sent.
+// The bridge: what is sent over it, what becomes of that by a stated pattern, and what is called on the other side.
+use binary::ByteField;
+use binary::ByteFieldField;
+use code::plan::Plan;
+use packet::Job;
+use receiver::run::Call;
+use sheet::closed::ClosedSheet;
+use std::alloc::AllocError;
+use std::alloc::Global;
 
-// The bytes of a packet of this job's plan.
-pub type Packet = [u8; 36];
-
-// Packet `number` as it was sent; nothing but zeros if there is no such packet.
-fn arriving(packets: &[u8], number: u8) -> Packet {
-    let start = usize::from(number) * 36;
-    let mut packet = [0; 36];
-    if let Some(bytes) = packets.get(start..start + 36) {
-        if bytes.len() == 36 {
-            packet.copy_from_slice(bytes);
-        }
-    }
-    packet
-}
-
-// The packet with one byte turned round.
-fn spoilt(mut packet: Packet, place: u8) -> Packet {
-    let place = usize::from(place);
-    if place < 36 {
-        packet[place] = 255 - packet[place];
-    }
-    packet
-}
-
-// What came over the bridge, and buffers for what is asked: `lost` did not come, and is kept to compare with.
+// What the bridge does with a packet.
 #[derive(Clone, Copy)]
-pub struct Arrived {
-    pub zero: Packet,
-    pub lost: Packet,
-    pub broken: Packet,
-    pub three: Packet,
-    pub four: Packet,
-    pub other: Packet,
-    pub five: Packet,
-    pub six: Packet,
-    pub seven: Packet,
-    pub wrong: Packet,
-    pub message: [u16; 80],
-    pub room: Packet,
+pub(crate) enum Bridge {
+    Brings,
+    Loses,
+    // It comes once more than it was sent.
+    Repeats,
+    // The byte at that place comes with all its bits turned.
+    Spoils(usize),
 }
 
-impl Arrived {
-    // The mark of one packet is broken, the job number of another, and one symbol of the last.
-    pub fn of(packets: &[u8]) -> Arrived {
-        Arrived {
-            zero: arriving(packets, 0),
-            lost: arriving(packets, 1),
-            broken: spoilt(arriving(packets, 2), 0),
-            three: arriving(packets, 3),
-            four: arriving(packets, 4),
-            other: spoilt(arriving(packets, 4), 13),
-            five: arriving(packets, 5),
-            six: arriving(packets, 6),
-            seven: arriving(packets, 7),
-            wrong: spoilt(arriving(packets, 7), 29),
-            message: [0; 80],
-            room: [0; 36],
+#[derive(Clone, Copy)]
+pub(crate) enum Step {
+    // The packet of that number, of the job of that number.
+    Packet(usize, u16, Bridge),
+    Read,
+    Rebuild(usize),
+}
+
+pub(crate) const JOB_NUMBER: u16 = 7;
+
+const OTHER_JOB: u16 = 8;
+
+pub(crate) const PACKET_LEN: usize = 28;
+
+pub(crate) const STEPS: [Step; 15] = [
+    Step::Packet(0, JOB_NUMBER, Bridge::Brings),
+    Step::Packet(1, JOB_NUMBER, Bridge::Loses),
+    Step::Packet(2, JOB_NUMBER, Bridge::Brings),
+    Step::Packet(2, JOB_NUMBER, Bridge::Repeats),
+    Step::Read,
+    Step::Packet(3, JOB_NUMBER, Bridge::Spoils(1)),
+    Step::Packet(3, OTHER_JOB, Bridge::Brings),
+    Step::Packet(4, JOB_NUMBER, Bridge::Brings),
+    Step::Packet(5, JOB_NUMBER, Bridge::Loses),
+    Step::Packet(6, JOB_NUMBER, Bridge::Brings),
+    Step::Packet(3, JOB_NUMBER, Bridge::Spoils(25)),
+    Step::Packet(3, JOB_NUMBER, Bridge::Brings),
+    Step::Read,
+    Step::Rebuild(1),
+    Step::Rebuild(7),
+];
+
+// Adds what comes over the bridge of one packet.
+fn carry_packet(
+    plan: &Plan,
+    sheet: &ClosedSheet,
+    job: Job,
+    number: usize,
+    bridge: Bridge,
+    arrived: &mut Vec<u8>,
+) -> Result<(), AllocError> {
+    let mut packet = [0; PACKET_LEN];
+    if sheet
+        .cut(plan, &ByteField {}, job, number, &mut packet)
+        .is_err() {
+        return Ok(());
+    }
+    match bridge {
+        Bridge::Loses => return Ok(()),
+        Bridge::Spoils(place) if place < PACKET_LEN => packet[place] ^= 255,
+        _ => {}
+    }
+    arrived.extend_from_slice(&packet)
+}
+
+// The packets that arrive, one behind the other.
+pub(crate) fn carry(
+    heap: Global,
+    plan: &Plan,
+    sheet: &ClosedSheet,
+    length: u16,
+) -> Result<Vec<u8>, AllocError> {
+    let mut arrived = Vec::new(heap);
+    for step in STEPS {
+        if let Step::Packet(n, number, bridge) = step {
+            let job = Job { number, length };
+            carry_packet(plan, sheet, job, n, bridge, &mut arrived)?;
         }
     }
+    Ok(arrived)
+}
+
+// The calls on the receiver: each packet that arrives is offered, and the readings and rebuilds go into these buffers.
+pub(crate) fn calls_for<'a>(
+    heap: Global,
+    arrived: &'a [u8],
+    message: &'a [u16],
+    packet: &'a [u8],
+) -> Result<Vec<Call<'a>>, AllocError> {
+    let mut calls = Vec::new(heap);
+    let mut rest = arrived;
+    for step in STEPS {
+        match step {
+            Step::Packet(_, _, Bridge::Loses) => {}
+            Step::Packet(_, _, _) => {
+                if rest.len() >= PACKET_LEN {
+                    calls.push(Call::Offer(&rest[0..PACKET_LEN]))?;
+                    rest = &rest[PACKET_LEN..];
+                }
+            }
+            Step::Read => calls.push(Call::Read(message))?,
+            Step::Rebuild(number) => calls.push(Call::Rebuild(number, packet))?,
+        }
+    }
+    Ok(calls)
 }
