@@ -1,0 +1,3 @@
+pub mod Begins
+pub mod Planning
+pub mod Reading

@@ -1,0 +1,4 @@
+pub mod Finding
+pub mod Headings
+pub mod Faults
+pub mod Jobs
