@@ -1,4 +1,6 @@
 // Prints the arithmetic of the three fields. The file `stdout` beside it was made by other software (tools/vectors).
+#![tactic(auto)]
+
 use binary::{ByteField, NibbleField};
 use field::Field;
 use prime::PrimeField;

@@ -1,4 +1,6 @@
 // Two fields of polynomials over two values: bit i of a number is the coefficient of x to the power i.
+#![tactic(auto)]
+
 mod byte;
 mod nibble;
 mod tables;

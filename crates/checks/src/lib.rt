@@ -1,4 +1,6 @@
 // Refusals, and checks of rows of symbols: the first that is too large, and the first place where two rows differ.
+#![tactic(auto)]
+
 ghost use Rattle.std.specs.Prelude.{◌≡◌, min, length};
 ghost use Rattle.checks.specs.Checks.{lowest, too_large, differs};
 

@@ -6,7 +6,7 @@ ghost use Rattle.code.specs.Packets.{minus};
 use field::Field;
 
 pub(crate) fn difference<F: Field>(field: &F, a: u16, b: u16) -> u16
-    ensures { result ≡ minus (numbers (ops field.now)) a b }
+    ensures { result ≡ minus (numbers (F.ops field.now)) a b }
 {
     field.sum(a, field.negative(b))
 }

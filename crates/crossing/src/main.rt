@@ -1,5 +1,7 @@
 // One job on its way over a bad bridge: it is packed, cut and sent; what arrives is offered, read and unpacked.
 // All calls on the receiver go through `run`, whose contract is the promise over whole runs.
+#![tactic(auto)]
+
 mod account;
 mod bridge;
 

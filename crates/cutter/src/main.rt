@@ -1,5 +1,7 @@
 // The cutter: what to cut comes on standard input, and its packets go to standard output, in order, nothing between.
 // A refusal is one line there: `refused`, the layer, the number and the place.
+#![tactic(auto)]
+
 use cutting::cut::{CutError, cut_input};
 use std::io;
 use std::io::{Read, Write};

@@ -1,4 +1,6 @@
 // Cuts a whole job: what the cutter's input asks for, and all packets of it, in order, nothing between.
+#![tactic(auto)]
+
 pub mod cut;
 mod packets;
 mod plans;

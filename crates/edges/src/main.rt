@@ -1,4 +1,6 @@
 // Prints what is answered at the edges of the limits: the largest that is taken, and the smallest that is refused.
+#![tactic(auto)]
+
 use binary::NibbleField;
 use code::fault::PlanFault;
 use code::plan::Plan;

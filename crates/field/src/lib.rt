@@ -1,4 +1,6 @@
 // The interface of a finite field, with the laws that each implementation shows, and the sum of rows that coders spend their time in.
+#![tactic(auto)]
+
 ghost use Rattle.std.specs.Prelude.{◌≡◌, ℕ, ◌<◌, length};
 ghost use Rattle.field.specs.Field.{Ops, Lawful, Steps, sum_of, negative_of, product_of, inverse_of};
 ghost use Rattle.field.specs.Rows.{Added, Combined};

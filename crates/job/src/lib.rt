@@ -1,4 +1,6 @@
 // The bytes of a job as the symbols of a message.
+#![tactic(auto)]
+
 ghost use Rattle.std.specs.Prelude.{◌≡◌};
 ghost use Rattle.code.specs.Plans.{view};
 ghost use Rattle.job.specs.Calls.{capacity_of, Packing, Unpacking};

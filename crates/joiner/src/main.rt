@@ -1,5 +1,7 @@
 // The joiner: packets come on standard input as the cutter writes them, some lost, repeated or damaged.
 // The job goes to standard output, and a panel for the operator to standard error.
+#![tactic(auto)]
+
 mod panel;
 
 use binary::{ByteField, NibbleField};

@@ -1,5 +1,7 @@
 // Cuts the jobs that standard input lists, a job a line: the field byte, m, r, L and the job in hex, and prints each packet in hex.
 // The files `stdin` and `stdout` beside it were made by other software (tools/vectors).
+#![tactic(auto)]
+
 use cutting::cut::{CutError, cut_input};
 use packet::{HEADER_LEN, ROW_COUNT_AT, word_at};
 use std::alloc::{AllocError, Global};

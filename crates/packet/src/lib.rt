@@ -1,4 +1,6 @@
 // The bytes of a packet: a header of twenty bytes, then the row.
+#![tactic(auto)]
+
 ghost use Rattle.std.specs.Prelude.{◌≡◌};
 ghost use Rattle.packet.specs.Opening.{seen};
 

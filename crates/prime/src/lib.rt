@@ -1,4 +1,6 @@
 // The field of the remainders by 257.
+#![tactic(auto)]
+
 ghost use Rattle.std.specs.Prelude.{◌≡◌, ◌<◌, if◌then◌else◌, nat_lt};
 ghost use Rattle.field.specs.Field.{Steps};
 ghost use Rattle.prime.specs.Prime.{prime, prime_size, inverse_table};

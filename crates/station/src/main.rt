@@ -1,4 +1,6 @@
 // Cuts one job into packets, and prints an account of it: the plan, the capacity, and each packet.
+#![tactic(auto)]
+
 use binary::ByteField;
 use checks::fault::Fault;
 use code::plan::Plan;

@@ -84,9 +84,9 @@ impl Plan {
         check_nodes: &[u16],
     ) -> Result<(), PlanFault>
         ensures { Made
-            (making_checks data_count check_count row_len (ops field.now).size
+            (making_checks data_count check_count row_len (F.ops field.now).size
             data_nodes.now check_nodes.now)
-            (plan_of data_count check_count row_len (ops field.now).size
+            (plan_of data_count check_count row_len (F.ops field.now).size
             (data_nodes.now ++ check_nodes.now))
             self.old self.new result }
     {

@@ -14,7 +14,7 @@ impl Plan {
     fn factors<F: Field>(&self, field: &F, number: usize) -> [u16; MOST_PACKETS]
         requires within { number < (view self.now).m + (view self.now).r }
         ensures room { length result ≡ 64 }
-        ensures answers { Factors (ops field.now) (view self.now) number result }
+        ensures answers { Factors (F.ops field.now) (view self.now) number result }
     {
         let mut factors = [0; MOST_PACKETS];
         let node = self.nodes[number];
@@ -29,7 +29,7 @@ impl Plan {
         requires whole { length message.now ≡ (view self.now).m * (view self.now).L }
         requires fits { length row.old ≡ (view self.now).L }
         ensures { row.new
-            ≡ row_of (ops field.now) (view self.now) message.now number }
+            ≡ row_of (F.ops field.now) (view self.now) message.now number }
     {
         if number < self.data_count {
             let start = number * self.row_len;
@@ -48,7 +48,7 @@ impl Plan {
         number: usize,
         row: &mut [u16],
     ) -> Result<(), PlanFault>
-        ensures { RowAnswered (ops field.now) (view self.now)
+        ensures { RowAnswered (F.ops field.now) (view self.now)
             message.now number row.old row.new result }
     {
         if field.size() != self.size {

@@ -11,7 +11,7 @@ use field::{Field, SteppedField};
 fn powers<F: Field>(field: &F, step: u16, count: usize) -> [u16; MOST_NODES]
     requires fits { count ≤ 128 }
     ensures room { length result ≡ 128 }
-    ensures answers { take count result ≡ standard_nodes (ops field.now) step count }
+    ensures answers { take count result ≡ standard_nodes (F.ops field.now) step count }
 {
     let mut all = [0; MOST_NODES];
     let mut power = 1;
@@ -32,9 +32,9 @@ impl Plan {
         row_len: usize,
     ) -> Result<(), PlanFault>
         ensures { Made
-            (standard_checks data_count check_count row_len (period field.now))
+            (standard_checks data_count check_count row_len (F.period field.now))
             (plan_of data_count check_count row_len (F.Field.ops field.now).size
-            (standard_nodes (F.Field.ops field.now) (first field.now)
+            (standard_nodes (F.Field.ops field.now) (F.first field.now)
             (data_count + check_count)))
             self.old self.new result }
     {

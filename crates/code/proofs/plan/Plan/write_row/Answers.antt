@@ -12,7 +12,7 @@ slice-bounds-copy-from-slice-end g c =
 pub returns-then-number-self : goal.returns-then-number-self
 returns-then-number-self g c =
     let a = c.args in
-    data_row (g.F.Field.ops a.field.now) (view a.self.now) a.message.now a.number c.copy-from-slice.new.self c.if-number-self.true (omega arith) c.copy-from-slice.ensures.after
+    data_row (g.F.Field.ops a.field.now) (view a.self.now) a.message.now a.number c.copy_from_slice.new.self c.if-number-self.true (omega arith) c.copy_from_slice.ensures.after
 
 pub returns-else-number-self : goal.returns-else-number-self
 returns-else-number-self g c =

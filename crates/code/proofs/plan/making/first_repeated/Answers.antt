@@ -9,4 +9,4 @@ returns-then-is-repeated c =
     sym (lowest_found (repeated nodes) c.loop-i.i (length nodes) c.loop-i.invariant (sym c.is-repeated.ensures ∙ c.if-is-repeated.true) c.loop-i-test.true)
 
 pub loop-i-preserved : goal.loop-i-preserved
-loop-i-preserved c = lowest_more (repeated c.args.nodes.now) c.loop-i.i c.loop-i.invariant (sym c.is-repeated.ensures ∙ c.if-is-repeated.false)
+loop-i-preserved c = lowest_more (repeated c.args.nodes.now) c.loop-i.i c.loop-i.invariant (sym c.is_repeated.ensures ∙ c.if-is_repeated.false)
