@@ -7,7 +7,7 @@
 --     byte_polynomial        x^8 + x^4 + x^3 + x^2 + 1
 --     nibble_polynomial      x^4 + x + 1
 --     byte, nibble           the fields of 256 and of 16 elements
-use Rattle.std.specs.Prelude.{ℕ, zero, suc, ◌+◌, ◌*◌, ◌/◌, ◌%◌, ◌^◌, bit-xor}
+use Rattle.std.specs.Prelude.{ℕ, zero, suc, ◌+◌, ◌*◌, ◌/◌, ◌%◌, ◌^◌, bit_xor}
 use Rattle.field.specs.Field.{Ops, inverse_by}
 
 -- the coefficient of x to the power i in v
@@ -17,12 +17,12 @@ coefficient v i = v / 2 ^ i % 2
 -- the product of b and the terms of a below x to the power n: b * 2 ^ i is b times x to the power i
 unfoldable pub poly_product : ℕ → ℕ → ℕ → ℕ
 poly_product zero a b = 0
-poly_product (suc i) a b = bit-xor (poly_product i a b) (coefficient a i * (b * 2 ^ i))
+poly_product (suc i) a b = bit_xor (poly_product i a b) (coefficient a i * (b * 2 ^ i))
 
 -- what the division of v, whose terms are below x to the power d + n, by m, whose first term is x to the power d, leaves
 unfoldable pub rest : ℕ → ℕ → ℕ → ℕ → ℕ
 rest m d zero v = v
-rest m d (suc i) v = rest m d i (bit-xor v (coefficient v (d + i) * (m * 2 ^ i)))
+rest m d (suc i) v = rest m d i (bit_xor v (coefficient v (d + i) * (m * 2 ^ i)))
 
 -- the product of a and b, which are below x to the power d, reduced by m
 unfoldable pub reduced : ℕ → ℕ → ℕ → ℕ → ℕ
@@ -33,7 +33,7 @@ reduced m d a b = rest m d d (poly_product d a b)
 abbrev pub binary : ℕ → ℕ → Ops
 binary m d = record {
   size = 2 ^ d;
-  sum = bitXor;
+  sum = bit_xor;
   negative = λ a. a;
   product = reduced m d;
   inverse = inverse_by (reduced m d) (2 ^ d);

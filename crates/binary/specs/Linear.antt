@@ -1,6 +1,6 @@
 -- The reduced product of a sum is the sum of the reduced products, on either side. Assumes nothing.
-use Rattle.std.specs.Prelude.{◌≡◌, ℕ, zero, suc, ◌+◌, ◌-◌, ◌*◌, ◌/◌, ◌%◌, ◌^◌, ◌<◌, ◌≤◌, ◌⊎◌, bit_xor, refl}
-use Rattle.std.proofs.Common.{sym, ap₂, subst, ◌∙◌, inl, inr, zero-mul, one-mul, mul-zero, mod-lt, add-zero, arith, pow_pos}
+use Rattle.std.specs.Prelude.{◌≡◌, ℕ, zero, suc, ◌+◌, ◌*◌, ◌/◌, ◌%◌, ◌^◌, ◌<◌, ◌⊎◌, bit_xor, refl}
+use Rattle.std.proofs.Common.{sym, ap₂, subst, ◌∙◌, inl, inr, zero-mul, one-mul, mod-lt, add-zero, arith, pow_pos}
 use Rattle.std.proofs.Math.Path.{ap}
 use Rattle.std.specs.Int.Bits.{xor_assoc, xor_self, xor_zero_r}
 use Rattle.std.proofs.lemmas.Nat.{xor_comm, xor_shr, xor_mod, xor_block}

@@ -3,7 +3,7 @@
 --     row o p M n        the row of packet n of the message M
 --     Fits o p M k       the message M fits the packet k: its row of that number is that row
 --     Explains o p M ks  M is a message that fits each of the packets ks
-use Rattle.std.specs.Prelude.{◌≡◌, ℕ, ◌+◌, ◌*◌, ◌<◌, List, map, length}
+use Rattle.std.specs.Prelude.{◌≡◌, ℕ, ◌*◌, ◌<◌, List, map, length}
 use Rattle.std.specs.List.{range_with_len, AllByRecursion}
 use Rattle.checks.specs.Checks.{at}
 use Rattle.field.specs.Field.{Ops}

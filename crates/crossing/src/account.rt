@@ -87,7 +87,7 @@ fn print_rebuilt(
     if sheet
         .cut(plan, &ByteField {}, job, number, &mut cut)
         .is_ok()
-        && packet == &cut
+        && packet == cut.as_slice()
     {
         println!(rt; "the same {PACKET_LEN} bytes that were sent")
     } else {

@@ -10,7 +10,6 @@ use binary::ByteField;
 use bridge::{JOB_NUMBER, PACKET_LEN, calls_for, carry};
 use checks::fault::Fault;
 use code::plan::Plan;
-use field::Field;
 use job::pack;
 use packet::Job;
 use receiver::run::run;

@@ -1,13 +1,13 @@
 -- What is answered to a request, from what its parts answer. Assumes nothing.
-use Rattle.std.proofs.Common.{◌≡◌, ℕ, ◌+◌, ◌*◌, ◌<◌, ◌≤◌, Bool, true, false, cond, List, [], ◌∷◌, length, Some, None, Ok, Err, vec_items, Option, Result, Vec, sym, refl, ap, ◌∙◌, subst, ap₂, arith}
+use Rattle.std.proofs.Common.{◌≡◌, ℕ, ◌<◌, List, length, Some, None, Ok, Err, vec_items, Option, Result, Vec, sym, ap, ◌∙◌, subst, ap₂}
 use Rattle.std.specs.Option.{option_map}
 use Rattle.std.specs.declared.alloc.Global.{Global}
 use Rattle.std.specs.List.{AllByRecursion}
-use Rattle.checks.specs.Checks.{first, answered, left}
+use Rattle.checks.specs.Checks.{first, answered}
 use Rattle.checks.specs.declared.fault.Fault.{Fault}
 use Rattle.checks.proofs.Order.{skip, last, answered_ok, answered_err, left_none}
 use Rattle.code.specs.Faults.{plan_fault}
-use Rattle.code.specs.Plans.{PlanView, view}
+use Rattle.code.specs.Plans.{view}
 use Rattle.code.specs.declared.plan.Plan.{Plan}
 use Rattle.field.specs.Field.{Ops}
 use Rattle.job.specs.Calls.{pack_checks, total, Packing}
@@ -16,12 +16,12 @@ use Rattle.job.specs.Packing.{packed}
 use Rattle.job.specs.declared.fault.JobFault.{JobFault}
 use Rattle.job.proofs.Elements.{packed-elements}
 use Rattle.packet.specs.declared.Job.{Job}
-use Rattle.cutting.specs.Answers.{Answers, request_plan, request_fault, request_packets, field_of, input_fault, input_packets}
+use Rattle.cutting.specs.Answers.{Answers, request_fault, request_packets, field_of, input_fault, input_packets}
 use Rattle.cutting.specs.Cutting.{Planned, all_packets, cutter_checks, cutter_plan}
 use Rattle.cutting.specs.Requests.{RequestView, requested, input_checked, input_named}
 use Rattle.cutting.specs.declared.request.FieldChoice.{FieldChoice}
 use Rattle.cutting.specs.declared.cut.CutError.{CutError}
-use Rattle.cutting.specs.declared.cut.CutError.TheVariants.{Refused, Memory}
+use Rattle.cutting.specs.declared.cut.CutError.TheVariants.{Refused}
 
 pub refused_as : (fault : Option Fault) (bytes : List ℕ) (r : Result (Vec ℕ Global) CutError) (f : Fault) → r ≡ Err (Refused f) → fault ≡ Some f → Answers fault bytes r
 refused_as fault bytes r f is e = subst (Answers fault bytes) (sym is) e

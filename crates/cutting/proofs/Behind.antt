@@ -1,14 +1,13 @@
 -- Packets that are cut one behind the other. Assumes nothing.
-use Rattle.std.proofs.Common.{◌≡◌, ℕ, ◌+◌, ◌-◌, ◌*◌, ◌<◌, ◌≤◌, cond, List, ◌++◌, length, take, drop, is_ok, IfOk, None, Ok, Err, Result, sym, refl, ap, ◌∙◌, ap₂, add-one, arith}
-use Rattle.std.proofs.lemmas.List.{take_at, append_assoc}
+use Rattle.std.proofs.Common.{◌≡◌, ℕ, ◌+◌, cond, List, ◌++◌, length, take, drop, is_ok, IfOk, Ok, Err, Result, ap, ◌∙◌, ap₂, add-one}
+use Rattle.std.proofs.lemmas.List.{take_at}
 use Rattle.std.proofs.lemmas.List.FromFn.{length-map-range_with_len}
 use Rattle.std.specs.declared.alloc.AllocError.{AllocError}
 use Rattle.checks.proofs.Order.{answered_ok, left_none}
 use Rattle.code.specs.Plans.{PlanView}
 use Rattle.code.specs.Rows.{row}
 use Rattle.field.specs.Field.{Ops}
-use Rattle.packet.specs.Layout.{laid, packet_length}
-use Rattle.packet.specs.Writing.{written}
+use Rattle.packet.specs.Layout.{packet_length}
 use Rattle.packet.specs.declared.Job.{Job}
 use Rattle.packet.proofs.Reading.{length-laid}
 use Rattle.sheet.specs.Sheets.{SheetView, Cut, cutting}

@@ -1,13 +1,12 @@
 -- Numbers that are counted up, and parts of them. Assumes nothing.
-use Rattle.std.proofs.Common.{◌≡◌, ℕ, ◌+◌, ◌-◌, ◌<◌, ◌≤◌, List, ◌++◌, length, take, drop, Some, None, Ok, Err, Result, sym, refl, ap, ◌∙◌, subst, ap₂, arith}
+use Rattle.std.proofs.Common.{◌≡◌, ℕ, ◌+◌, ◌<◌, ◌≤◌, List, ◌++◌, length, take, drop, Ok, Err, Result, sym, ◌∙◌, subst, ap₂, arith}
 use Rattle.std.specs.List.{range_with_len}
 use Rattle.std.proofs.lemmas.List.FromFn.{length-range_with_len, get_or-range_with_len}
 use Rattle.std.proofs.lemmas.List.{length-take, length-drop, get_or-take, get_or-drop}
-use Rattle.checks.specs.Checks.{at, first, answered}
+use Rattle.checks.specs.Checks.{at, first}
 use Rattle.checks.proofs.Lowest.{same_places}
 use Rattle.checks.proofs.Order.{answered_ok, answered_err}
 use Rattle.code.specs.Making.{making_checks, plan_of, Made}
-use Rattle.code.specs.Plans.{view}
 use Rattle.code.specs.declared.fault.PlanFault.{PlanFault}
 use Rattle.code.specs.declared.plan.Plan.{Plan}
 use Rattle.cutting.specs.Cutting.{Planned, cutter_checks, cutter_plan}

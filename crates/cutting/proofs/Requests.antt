@@ -1,8 +1,8 @@
 -- What is read of an input that passes its checks. Assumes nothing.
-use Rattle.std.proofs.Common.{◌≡◌, ℕ, ◌-◌, ◌≤◌, leb, List, [], ◌∷◌, length, take, drop, None, Ok, sym, refl, ap, ◌∙◌}
+use Rattle.std.proofs.Common.{◌≡◌, ℕ, ◌-◌, ◌≤◌, List, length, take, drop, None, Ok, sym, ap, ◌∙◌}
 use Rattle.std.proofs.lemmas.List.{take_rest}
 use Rattle.std.proofs.lemmas.Bool.{le-leb}
-use Rattle.checks.specs.Checks.{at, first, answered}
+use Rattle.checks.specs.Checks.{at, answered}
 use Rattle.checks.proofs.Order.{skip, last, unless_true, answered_ok}
 use Rattle.cutting.specs.Requests.{RequestView, requested, chosen, field_check, input_checked}
 use Rattle.cutting.specs.declared.request.FieldChoice.{FieldChoice}

@@ -4,7 +4,7 @@
 --     request_packets o a          all packets of what is asked for
 --     input_fault bs               the first fault of an input: of the input itself, then of what it asks for
 --     input_packets bs             all packets of what it asks for
-use Rattle.std.specs.Prelude.{◌≡◌, ℕ, ◌*◌, List, [], ◌∷◌, length, Some, None, Ok, Err, vec_items, Option, Result, Vec}
+use Rattle.std.specs.Prelude.{◌≡◌, ℕ, List, [], ◌∷◌, length, Some, None, Ok, Err, vec_items, Option, Result, Vec}
 use Rattle.std.specs.Option.{option_map}
 use Rattle.std.specs.declared.alloc.Global.{Global}
 use Rattle.binary.specs.Binary.{byte, nibble}
@@ -16,7 +16,6 @@ use Rattle.field.specs.Field.{Ops}
 use Rattle.job.specs.Calls.{pack_checks, total}
 use Rattle.job.specs.Faults.{job_fault}
 use Rattle.job.specs.Packing.{packed}
-use Rattle.packet.specs.declared.Job.{Job}
 use Rattle.prime.specs.Prime.{prime}
 use Rattle.cutting.specs.Cutting.{all_packets, cutter_checks, cutter_plan}
 use Rattle.cutting.specs.Requests.{RequestView, input_named, input_checked, requested}

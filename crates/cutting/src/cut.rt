@@ -74,10 +74,10 @@ fn cut_message<F: Field>(
     job: Job,
     message: &[u16],
 ) -> Result<Vec<u8>, AllocError>
-    requires size { (ops field.now).size ≡ (view plan.now).q }
+    requires size { (F.ops field.now).size ≡ (view plan.now).q }
     requires long { length message.now ≡ (view plan.now).m * (view plan.now).L }
     requires element { AllByRecursion (λ x. x < (view plan.now).q) message.now }
-    ensures { IfOk result (λ v. v.items ≡ all_packets (ops field.now) (view plan.now) job message.now) }
+    ensures { IfOk result (λ v. v.items ≡ all_packets (F.ops field.now) (view plan.now) job message.now) }
 {
     let mut room = [0; 8192];
     let sheet = lay_all(plan, message, &mut room[0..plan.message_len()]);
@@ -88,7 +88,7 @@ fn cut_message<F: Field>(
 
 // All packets of a job.
 fn cut_request<F: Field>(heap: Global, field: &F, request: &Request) -> Result<Vec<u8>, CutError>
-    ensures { Answers (request_fault (ops field.now) (request_view_of request.now)) (request_packets (ops field.now) (request_view_of request.now)) result }
+    ensures { Answers (request_fault (F.ops field.now) (request_view_of request.now)) (request_packets (F.ops field.now) (request_view_of request.now)) result }
 {
     let plan = make_plan(
         field,

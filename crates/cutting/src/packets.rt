@@ -38,10 +38,10 @@ fn push_packet<F: Field>(
     number: usize,
     out: &mut Vec<u8>,
 ) -> Result<(), AllocError>
-    requires size { (ops field.now).size ≡ (view plan.now).q }
+    requires size { (F.ops field.now).size ≡ (view plan.now).q }
     requires whole { Whole (view plan.now) (closed_view sheet.now) }
     requires within { number < (view plan.now).m + (view plan.now).r }
-    ensures { OnOk result (out.new.items ≡ out.old.items ++ packet_of (ops field.now) (view plan.now) job (closed_view sheet.now).content number) }
+    ensures { OnOk result (out.new.items ≡ out.old.items ++ packet_of (F.ops field.now) (view plan.now) job (closed_view sheet.now).content number) }
 {
     let mut room = [0u8; 276];
     match sheet.cut(plan, field, job, number, &mut room) {
@@ -58,9 +58,9 @@ pub(crate) fn cut_all<F: Field>(
     job: Job,
     sheet: &ClosedSheet,
 ) -> Result<Vec<u8>, AllocError>
-    requires size { (ops field.now).size ≡ (view plan.now).q }
+    requires size { (F.ops field.now).size ≡ (view plan.now).q }
     requires whole { Whole (view plan.now) (closed_view sheet.now) }
-    ensures { IfOk result (λ v. v.items ≡ all_packets (ops field.now) (view plan.now) job (closed_view sheet.now).content) }
+    ensures { IfOk result (λ v. v.items ≡ all_packets (F.ops field.now) (view plan.now) job (closed_view sheet.now).content) }
 {
     let mut out = Vec::new(heap);
     for number in 0..plan.packet_count() {

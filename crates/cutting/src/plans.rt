@@ -26,7 +26,7 @@ pub(crate) fn make_plan<F: Field>(
     check_count: u8,
     row_len: u8,
 ) -> Result<Plan, PlanFault>
-    ensures { Planned (cutter_checks (ops field.now).size data_count check_count row_len) (cutter_plan (ops field.now).size data_count check_count row_len) result }
+    ensures { Planned (cutter_checks (F.ops field.now).size data_count check_count row_len) (cutter_plan (F.ops field.now).size data_count check_count row_len) result }
 {
     let data = usize::from(data_count);
     let all = data + usize::from(check_count);

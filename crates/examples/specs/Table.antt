@@ -1,5 +1,5 @@
 -- The worked examples as one table: small cases of the rules, with the numbers that come out of them. Assumes nothing.
-use Rattle.std.specs.Prelude.{◌≡◌, List, [], ◌∷◌, map, Some}
+use Rattle.std.specs.Prelude.{◌≡◌, [], ◌∷◌, map, Some}
 use Rattle.std.specs.Option.{option_map}
 use Rattle.binary.specs.Binary.{byte, nibble}
 use Rattle.checks.specs.Checks.{first}

@@ -1,6 +1,6 @@
 -- Rows that are added up, one multiple after the other. Assumes nothing.
-use Rattle.std.proofs.Common.{◌≡◌, ℕ, zero, suc, ◌+◌, ◌*◌, ◌<◌, ◌≤◌, min, cond, ltb, List, [], length, take, drop, sym, refl, ap, ◌∙◌, ap₂, inl, inr, add-mul, one-mul, add-one, arith}
-use Rattle.std.proofs.lemmas.List.{length-take, length-drop, get_or-take, get_or-drop, get_or_past, drop-drop, drop_all}
+use Rattle.std.proofs.Common.{◌≡◌, ℕ, zero, suc, ◌+◌, ◌*◌, ◌<◌, min, ltb, List, length, take, drop, sym, refl, ap, ◌∙◌, ap₂, inl, inr, add-mul, add-one, arith}
+use Rattle.std.proofs.lemmas.List.{length-take, get_or-take, get_or-drop, get_or_past, drop-drop, drop_all}
 use Rattle.std.proofs.lemmas.Bool.{cases_lt, cond_below, cond_above, cond-true, cond-false, lt-ltb, le-ltb}
 use Rattle.checks.specs.Checks.{at}
 use Rattle.field.specs.Field.{Ops, Lawful, sum_of, product_of}

@@ -1,6 +1,6 @@
 -- The inverse of an element is the one element whose product with it is 1.
 -- Assumes nothing.
-use Rattle.std.proofs.Common.{◌≡◌, ℕ, zero, suc, ◌-◌, ◌<◌, ◌≤◌, Bool, true, false, cond, eqb, ◌⊎◌, sym, refl, ap, ◌∙◌, subst, inl, inr, not-suc-le-zero, arith}
+use Rattle.std.proofs.Common.{◌≡◌, ℕ, zero, suc, ◌-◌, ◌<◌, cond, eqb, sym, refl, ap, ◌∙◌, subst, inl, inr, not-suc-le-zero, arith}
 use Rattle.std.proofs.lemmas.Bool.{cond_both, cond-true, cond-false, cases_eq, eqb-true, eqb-false, eq-eqb, ne_eqb}
 use Rattle.field.specs.Field.{Ops, Lawful, inverse_by}
 

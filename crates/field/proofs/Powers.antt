@@ -1,6 +1,6 @@
 -- The powers of a step: they are all different where none between the first and the last is 1.
 -- Assumes nothing.
-use Rattle.std.proofs.Common.{◌≡◌, ℕ, zero, suc, ◌+◌, ◌-◌, ◌<◌, ◌≤◌, Bool, true, false, not, T, eqb, ◌⊎◌, sym, ap, ◌∙◌, subst, ap₂, inl, inr, not-suc-le-zero, add-zero, add-suc, suc-add, zero-add, arith, T_not}
+use Rattle.std.proofs.Common.{◌≡◌, ℕ, zero, suc, ◌+◌, ◌-◌, ◌<◌, Bool, true, not, T, eqb, sym, ap, ◌∙◌, subst, inl, inr, not-suc-le-zero, add-zero, add-suc, suc-add, zero-add, arith, T_not}
 use Rattle.std.proofs.lemmas.Bool.{cases_order, eq-eqb}
 use Rattle.field.specs.Field.{Ops, Lawful, Steps, product_of, power}
 use Rattle.field.proofs.Total.{one-element, product_of-element, product_of_comm, product_of_assoc, product_of-one}

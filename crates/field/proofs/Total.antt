@@ -1,6 +1,6 @@
 -- The laws of a field's operations at all numbers, where one of `size` or more counts as 0.
 -- Assumes nothing.
-use Rattle.std.proofs.Common.{◌≡◌, ℕ, zero, suc, ◌<◌, ◌≤◌, cond, ltb, sym, ap, ◌∙◌, ap₂, arith}
+use Rattle.std.proofs.Common.{◌≡◌, ℕ, ◌<◌, ltb, sym, ap, ◌∙◌, ap₂, arith}
 use Rattle.std.proofs.lemmas.Bool.{cond_both, ltb-true, lt-ltb, cond-true}
 use Rattle.field.specs.Field.{Ops, Lawful, element, sum_of, negative_of, product_of, inverse_of}
 

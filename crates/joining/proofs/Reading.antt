@@ -2,7 +2,7 @@
 use Rattle.std.proofs.Common.{◌≡◌, ℕ, ◌-◌, ◌≤◌, List, length, take, drop, replicate, Some, None, Ok, Err, Result, sym, refl, ap, ◌∙◌, subst, arith}
 use Rattle.std.proofs.lemmas.List.{take-replicate}
 use Rattle.std.specs.Option.{option_map}
-use Rattle.checks.specs.Checks.{first, answered, left}
+use Rattle.checks.specs.Checks.{first, answered}
 use Rattle.checks.proofs.Order.{answered_ok, answered_err, left_none, left_some, last}
 use Rattle.code.specs.Plans.{view}
 use Rattle.code.specs.declared.plan.Plan.{Plan}

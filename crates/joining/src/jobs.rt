@@ -17,7 +17,7 @@ pub fn read_job<F: Field>(
     len: usize,
     job: &mut [u8],
 ) -> Result<(), JoinFault>
-    ensures { Joined (ops field.now) (view plan.now) receiver.now len
+    ensures { Joined (F.ops field.now) (view plan.now) receiver.now len
         job.old job.new result }
 {
     let mut room = [0; SHELF_LEN];

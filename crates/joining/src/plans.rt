@@ -30,9 +30,9 @@ fn made<F: Field>(
     check_nodes: &[u16],
 ) -> Result<Plan, PlanFault>
     ensures { Planned
-        (making_checks data_count check_count row_len (ops field.now).size
+        (making_checks data_count check_count row_len (F.ops field.now).size
         data_nodes.now check_nodes.now)
-        (plan_of data_count check_count row_len (ops field.now).size
+        (plan_of data_count check_count row_len (F.ops field.now).size
         (data_nodes.now ++ check_nodes.now)) result }
 {
     let mut plan = Plan::new();
@@ -52,7 +52,7 @@ fn made<F: Field>(
 impl Heading {
     // The cutter's plan of these counts over a field.
     pub fn plan<F: Field>(self, field: &F) -> Result<Plan, PlanFault>
-        ensures { Asked (ops field.now).size self result }
+        ensures { Asked (F.ops field.now).size self result }
     {
         let data = usize::from(self.data_count);
         let checks = usize::from(self.check_count);

@@ -1,7 +1,6 @@
 -- Loops that write numbers and rows, and parts written one behind the other. Assumes nothing.
 use Rattle.std.proofs.Common.{◌≡◌, ℕ, ◌+◌, ◌-◌, ◌*◌, ◌/◌, ◌%◌, ◌<◌, ◌≤◌, List, [], ◌∷◌, ◌++◌, map, length, take, drop, set, sym, refl, ap, ◌∙◌, ap₂, arith}
 use borrow.Rule.Slice.PartMut.{put_mid}
-use Rattle.std.specs.List.{range_with_len}
 use Rattle.std.proofs.lemmas.List.{append_assoc, length-set, take_all, take_at, take_more, take_more_set, drop_at, drop-drop, map_more}
 use Rattle.std.proofs.lemmas.List.FromFn.{map-range_with_len_more}
 use Rattle.checks.specs.Checks.{at}
@@ -10,7 +9,6 @@ use Rattle.packet.specs.Bytes.{words, low_byte, row_bytes, symbol_at, symbols_in
 use Rattle.packet.specs.Layout.{mark, numbers, packet_length, laid}
 use Rattle.packet.specs.Writing.{written, Lays}
 use Rattle.packet.specs.declared.Job.{Job}
-use Rattle.packet.proofs.Numbers.{length-words}
 use Rattle.packet.proofs.Opening.{laid-reopens}
 use Rattle.packet.proofs.Reading.{length-laid}
 

@@ -1,5 +1,5 @@
 -- How a reading and a rebuild of the machine are shown of code. Assumes nothing.
-use Rattle.std.proofs.Common.{◌≡◌, ℕ, ◌+◌, ◌*◌, ◌≤◌, true, false, List, [], ◌++◌, length, drop, is_some, Some, None, Ok, Err, Option, Result, unwrap_or, sym, ap, ◌∙◌}
+use Rattle.std.proofs.Common.{◌≡◌, ℕ, ◌*◌, ◌≤◌, true, false, List, [], ◌++◌, length, drop, is_some, Some, None, Ok, Err, Option, Result, unwrap_or, sym, ap, ◌∙◌}
 use Rattle.std.specs.List.{AllByRecursion}
 use Rattle.std.proofs.lemmas.Bool.{eqb-true, leb-true}
 use Rattle.checks.specs.Checks.{unless, first, answered}

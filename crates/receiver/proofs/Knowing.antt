@@ -7,7 +7,7 @@ use Rattle.std.proofs.lemmas.List.{get_or-take, length-take-le, take-take}
 use Rattle.std.proofs.lemmas.Bool.{eq-eqb, ne_eqb}
 use Rattle.checks.specs.Checks.{at}
 use Rattle.code.specs.Plans.{PlanView}
-use Rattle.code.specs.Rows.{Packet, row, Explains}
+use Rattle.code.specs.Rows.{Packet, Explains}
 use Rattle.field.specs.Field.{Ops}
 use Rattle.receiver.specs.Examining.{Knows}
 use Rattle.receiver.specs.Machine.{find, or_else, known}

@@ -11,7 +11,7 @@ use Rattle.code.specs.Plans.{PlanView, Sound}
 use Rattle.code.specs.Settles.{Good}
 use Rattle.code.proofs.Rows.{row_within}
 use Rattle.code.proofs.Views.{sound_of}
-use Rattle.receiver.specs.Machine.{State, count}
+use Rattle.receiver.specs.Machine.{State}
 use Rattle.receiver.specs.Receivers.{packet_at, state, plan_of, state_of}
 use Rattle.receiver.specs.Shelves.{shelved, row_on}
 use Rattle.receiver.specs.States.{Unlike, Reached}

@@ -7,9 +7,8 @@
 --     rule o p j M s c        the outcome of a call, by its checks in their order
 --     Step o p j s c a after t    the machine goes from s to t with this call, answer and later content of the buffer
 --     Reached p s             what every state keeps
-use Rattle.std.specs.Prelude.{◌≡◌, ℕ, ◌+◌, ◌*◌, ◌<◌, ◌≤◌, Bool, true, false, cond, ◌||◌, List, [], ◌∷◌, ◌++◌, map, length, drop, is_some, Some, None, Option, ◌==◌, nat_le, nat_lt}
+use Rattle.std.specs.Prelude.{◌≡◌, ℕ, ◌+◌, ◌*◌, Bool, true, false, cond, ◌||◌, List, [], ◌∷◌, ◌++◌, map, length, drop, is_some, Some, None, Option, ◌==◌, nat_le, nat_lt}
 use Rattle.std.specs.Option.{option_map, unwrap_or}
-use Rattle.std.specs.List.{AllByRecursion}
 use Rattle.checks.specs.Checks.{unless, first, lowest, too_large, differs}
 use Rattle.code.specs.Plans.{PlanView}
 use Rattle.code.specs.Rows.{Packet, row, Explains}

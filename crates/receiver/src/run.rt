@@ -34,7 +34,7 @@ fn make<F: Field>(
     receiver: &mut Receiver,
     call: Call,
 ) -> Result<Done, AllocError>
-    ensures answers { MakesOr (ops field.now) receiver.old call.entry result receiver.new }
+    ensures answers { MakesOr (F.ops field.now) receiver.old call.entry result receiver.new }
     ensures leaves { Keeps receiver.old receiver.new }
 {
     match call {
@@ -60,7 +60,7 @@ pub fn run<F: Field>(
     job: Job,
     calls: &[Call],
 ) -> Result<Vec<Done>, AllocError>
-    ensures { Replayed (ops field.now) (view plan.now) job calls.now result }
+    ensures { Replayed (F.ops field.now) (view plan.now) job calls.now result }
 {
     let mut receiver = Receiver::open(plan, job);
     let mut done = Vec::new(heap);

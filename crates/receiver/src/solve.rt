@@ -33,11 +33,11 @@ fn write_row<F: Field>(
     out: &mut [u16],
 )
     requires given { Given (view plan.now) numbers.now rows.now }
-    requires weighs { Weighs (ops field.now) (view plan.now) numbers.now weights.now }
-    requires sized { (ops field.now).size ≡ (view plan.now).q }
+    requires weighs { Weighs (F.ops field.now) (view plan.now) numbers.now weights.now }
+    requires sized { (F.ops field.now).size ≡ (view plan.now).q }
     requires within { number < (view plan.now).m + (view plan.now).r }
     requires fits { length out.old ≡ (view plan.now).L }
-    ensures { RowOf (ops field.now) (view plan.now)
+    ensures { RowOf (F.ops field.now) (view plan.now)
         (packets (view plan.now) numbers.now rows.now) number out.new }
 {
     if let Some(t) = place_of(numbers, number) {
@@ -59,10 +59,10 @@ pub(crate) fn solve_row<F: Field>(
     out: &mut [u16],
 )
     requires given { Given (view plan.now) numbers.now rows.now }
-    requires sized { (ops field.now).size ≡ (view plan.now).q }
+    requires sized { (F.ops field.now).size ≡ (view plan.now).q }
     requires within { number < (view plan.now).m + (view plan.now).r }
     requires fits { length out.old ≡ (view plan.now).L }
-    ensures { RowOf (ops field.now) (view plan.now)
+    ensures { RowOf (F.ops field.now) (view plan.now)
         (packets (view plan.now) numbers.now rows.now) number out.new }
 {
     let weights = Weights::of(field, plan, numbers);
@@ -78,9 +78,9 @@ pub(crate) fn solve_message<F: Field>(
     out: &mut [u16],
 )
     requires given { Given (view plan.now) numbers.now rows.now }
-    requires sized { (ops field.now).size ≡ (view plan.now).q }
+    requires sized { (F.ops field.now).size ≡ (view plan.now).q }
     requires fits { length out.old ≡ (view plan.now).m * (view plan.now).L }
-    ensures { Explains (ops field.now) (view plan.now) out.new
+    ensures { Explains (F.ops field.now) (view plan.now) out.new
         (packets (view plan.now) numbers.now rows.now) }
 {
     let weights = Weights::of(field, plan, numbers);

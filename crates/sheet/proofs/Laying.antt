@@ -1,11 +1,11 @@
 -- What laying a row answers and leaves where no check applies. Assumes nothing.
-use Rattle.std.proofs.Common.{◌≡◌, ℕ, ◌+◌, ◌-◌, ◌*◌, ◌<◌, ◌≤◌, List, [], ◌∷◌, ◌++◌, length, take, drop, None, Option, sym, refl, ap, ◌∙◌, ap₂, add-mul, arith}
-use borrow.Rule.Slice.PartMut.{put_mid, post_of}
+use Rattle.std.proofs.Common.{◌≡◌, ℕ, ◌+◌, ◌-◌, ◌*◌, ◌<◌, ◌≤◌, List, ◌++◌, length, take, drop, None, sym, ap, ◌∙◌, ap₂, add-mul, arith}
+use borrow.Rule.Slice.PartMut.{put_mid}
 use Rattle.std.proofs.lemmas.Nat.{mul-le}
 use Rattle.std.proofs.lemmas.List.{drop-drop}
 use Rattle.std.proofs.lemmas.Bool.{eq-eqb, lt-ltb}
 use Rattle.std.specs.Option.{option_map}
-use Rattle.checks.specs.Checks.{lowest, too_large, left}
+use Rattle.checks.specs.Checks.{lowest, too_large}
 use Rattle.checks.proofs.Order.{skip, last, unless_true, left_none}
 use Rattle.sheet.specs.Sheets.{SheetView, laying, laid_on, with_row}
 use Rattle.sheet.specs.declared.fault.SheetFault.TheVariants.{Symbol}

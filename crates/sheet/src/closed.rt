@@ -53,7 +53,7 @@ impl<'a> ClosedSheet<'a> {
         number: usize,
         out: &mut [u8],
     ) -> Result<usize, SheetFault>
-        ensures { Cut (closed_view self.now) (view plan.now) (ops field.now) job number out.old out.new result }
+        ensures { Cut (closed_view self.now) (view plan.now) (F.ops field.now) job number out.old out.new result }
     {
         self.check(plan, field.size(), number, out.len())?;
         let mut room = [0u16; 128];

@@ -5,7 +5,6 @@ use binary::ByteField;
 use checks::fault::Fault;
 use code::plan::Plan;
 use cutting::cut::{CutError, cut_input};
-use field::Field;
 use job::capacity;
 use packet::{Packet, open, packet_len};
 use std::io;

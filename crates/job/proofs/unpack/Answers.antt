@@ -7,7 +7,7 @@ pub lift-requires : goal.lift-requires
 lift-requires c =
     let limit = c.symbol_limit.ensures.answers ∙ ap symbol_limit c.size-size.ensures.answers in
     let count = c.symbols_a_byte.ensures.answers ∙ ap symbols_a_byte c.size-size.ensures.answers in
-    let none = passed _ c.in-ok-check-message.ensures in
+    let none = passed _ c.in_ok-check_message.ensures in
     record {
       within = c.symbol_limit.ensures.bounds;
       fits = enough c.args.plan.now c.args.message.now c.args.job.now c.args.len _ _ limit count none;
@@ -19,4 +19,4 @@ returns c =
     unpacking_done c.args.plan.now c.args.message.now c.args.job.now c.args.len _ _
     (c.symbol_limit.ensures.answers ∙ ap symbol_limit c.size-size.ensures.answers)
     (c.symbols_a_byte.ensures.answers ∙ ap symbols_a_byte c.size-size.ensures.answers)
-    (passed _ c.in-ok-check-message.ensures) c.lift.new.job c.lift.ensures
+    (passed _ c.in_ok-check_message.ensures) c.lift.new.job c.lift.ensures

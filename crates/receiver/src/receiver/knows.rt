@@ -10,10 +10,10 @@ use field::Field;
 impl Receiver {
     // Writes the row of that number if it is known, over this field.
     pub(crate) fn write_known<F: Field>(&self, field: &F, number: usize, out: &mut [u16]) -> bool
-        requires sized { (ops field.now).size ≡ (plan_of self.now).q }
+        requires sized { (F.ops field.now).size ≡ (plan_of self.now).q }
         requires within { number < (plan_of self.now).m + (plan_of self.now).r }
         requires fits { length out.old ≡ (plan_of self.now).L }
-        ensures { Knows (ops field.now) (plan_of self.now) (state_of self.now)
+        ensures { Knows (F.ops field.now) (plan_of self.now) (state_of self.now)
             number result out.new }
     {
         let data_count = self.plan.data_count();

@@ -51,7 +51,7 @@ impl Receiver {
         row: &mut [u16],
     ) -> Result<u16, ReceiverFault>
         requires fits { length row.old ≡ (plan_of self.now).L }
-        ensures { Examined (ops field.now) (plan_of self.now)
+        ensures { Examined (F.ops field.now) (plan_of self.now)
             (job_of self.now) bytes.now result row.new }
     {
         if field.size() != self.plan.size() {
@@ -74,10 +74,10 @@ impl Receiver {
 
     // What the last check finds: the packet against the row that is known of its number, over this field.
     fn against<F: Field>(&self, field: &F, number: u16, row: &[u16]) -> Option<ReceiverFault>
-        requires sized { (ops field.now).size ≡ (plan_of self.now).q }
+        requires sized { (F.ops field.now).size ≡ (plan_of self.now).q }
         requires within { number < (plan_of self.now).m + (plan_of self.now).r }
         requires fits { length row.now ≡ (plan_of self.now).L }
-        ensures { Judges (ops field.now) (plan_of self.now)
+        ensures { Judges (F.ops field.now) (plan_of self.now)
             (state_of self.now) (record { number = number; row = row.now }) result }
     {
         let mut room = [0; MOST_SYMBOLS];
@@ -96,7 +96,7 @@ impl Receiver {
 
     // Offers the bytes of a packet. The answer is the count of accepted packets.
     pub fn offer<F: Field>(&mut self, field: &F, bytes: &[u8]) -> Result<usize, ReceiverFault>
-        ensures answers { Answers (ops field.now) self.old
+        ensures answers { Answers (F.ops field.now) self.old
             (an_offer bytes.now) (offer_answer result) bytes.now self.new }
         ensures leaves { Keeps self.old self.new }
         ensures unchanged { is_err result ≡ true → self.new ≡ self.old }

@@ -15,7 +15,7 @@ use packet::{packet_len, write};
 impl Receiver {
     // What forbids a reading into this buffer.
     fn check_reading<F: Field>(&self, field: &F, message: &[u16]) -> Result<(), ReceiverFault>
-        ensures { result ≡ answered (first (read_front (ops field.now) (plan_of self.now)
+        ensures { result ≡ answered (first (read_front (F.ops field.now) (plan_of self.now)
             (state_of self.now) message.now)) tt }
     {
         if field.size() != self.plan.size() {
@@ -33,7 +33,7 @@ impl Receiver {
 
     // Writes the message into the buffer, row 0 first.
     pub fn read<F: Field>(&self, field: &F, message: &mut [u16]) -> Result<(), ReceiverFault>
-        ensures { Answers (ops field.now) self.now (a_reading message.old)
+        ensures { Answers (F.ops field.now) self.now (a_reading message.old)
             (read_answer result) message.new self.now }
     {
         self.check_reading(field, message)?;
@@ -50,7 +50,7 @@ impl Receiver {
         number: usize,
         out: &[u8],
     ) -> Result<(), ReceiverFault>
-        ensures { result ≡ answered (first (rebuild_front (ops field.now) (plan_of self.now)
+        ensures { result ≡ answered (first (rebuild_front (F.ops field.now) (plan_of self.now)
             number out.now)) tt }
     {
         if field.size() != self.plan.size() {
@@ -73,7 +73,7 @@ impl Receiver {
         number: usize,
         out: &mut [u8],
     ) -> Result<usize, ReceiverFault>
-        ensures { Answers (ops field.now) self.now (a_rebuild number out.old)
+        ensures { Answers (F.ops field.now) self.now (a_rebuild number out.old)
             (rebuild_answer result) out.new self.now }
     {
         self.check_rebuild(field, number, out)?;

@@ -23,13 +23,13 @@ pub(super) struct Weights {
 }
 
 fn difference<F: Field>(field: &F, a: u16, b: u16) -> u16
-    ensures { result ≡ minus (numbers_of (ops field.now)) a b }
+    ensures { result ≡ minus (numbers_of (F.ops field.now)) a b }
 {
     field.sum(a, field.negative(b))
 }
 
 fn products_at<F: Field>(field: &F, nodes: &[u16], z: u16) -> Products
-    ensures { ProductsAt (ops field.now) nodes.now z result.away result.slope }
+    ensures { ProductsAt (F.ops field.now) nodes.now z result.away result.slope }
 {
     let mut away = 1;
     let mut slope = 0;
@@ -44,7 +44,7 @@ fn products_at<F: Field>(field: &F, nodes: &[u16], z: u16) -> Products
 // What the row of that number is multiplied by to be the value at its node of the message's polynomial.
 fn scale_of<F: Field>(field: &F, plan: &Plan, number: usize) -> u16
     requires within { number < (view plan.now).m + (view plan.now).r }
-    ensures { result ≡ scale_in (ops field.now) (view plan.now) number }
+    ensures { result ≡ scale_in (F.ops field.now) (view plan.now) number }
 {
     let nodes = plan.nodes();
     let products = products_at(field, &nodes[0..plan.data_count()], nodes[number]);
@@ -73,7 +73,7 @@ impl Weights {
     // The weights of the packets of those numbers.
     pub(super) fn of<F: Field>(field: &F, plan: &Plan, numbers: &[u16]) -> Weights
         requires numbered { Numbered (view plan.now) numbers.now }
-        ensures { Weighs (ops field.now) (view plan.now) numbers.now result }
+        ensures { Weighs (F.ops field.now) (view plan.now) numbers.now result }
     {
         let nodes = nodes_of(plan, numbers);
         let mut weights = [0; 64];
@@ -89,7 +89,7 @@ impl Weights {
     pub(super) fn parts<F: Field>(&self, field: &F, plan: &Plan, number: usize) -> [u16; 64]
         requires within { number < (view plan.now).m + (view plan.now).r }
         ensures room { length result ≡ 64 }
-        ensures answers { PartsBy (ops field.now) (view plan.now) self.now number result }
+        ensures answers { PartsBy (F.ops field.now) (view plan.now) self.now number result }
     {
         let node = plan.nodes()[number];
         let products = products_at(field, &self.nodes[0..plan.data_count()], node);

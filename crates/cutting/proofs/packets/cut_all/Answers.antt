@@ -6,4 +6,4 @@ use Rattle.cutting.proofs.packets.cut_all.Goals as goal
 pub loop-number-preserved : goal.loop-number-preserved
 loop-number-preserved g c =
     packets_more (g.F.Field.ops c.args.field.now) (view c.args.plan.now) c.args.job (closed_view c.args.sheet.now).content c.loop-number.number _ _
-    c.loop-number.invariant c.in-ok-push-packet.ensures
+    c.loop-number.invariant c.in_ok-push_packet.ensures

@@ -11,6 +11,6 @@ returns g c =
     let p = view c.args.plan.now in
     let o = g.F.Field.ops c.args.field.now in
     let all : c.in-Ok.len - 0 ≡ c.in-Ok.len = omega arith in
-    pushed_bytes c.extend-from-slice.result (vec_items c.args.out.now) (vec_items c.extend-from-slice.new.self) (take (c.in-Ok.len - 0) c.cut.new.out)
-    (packet_of o p c.args.job s.content c.args.number) c.extend-from-slice.ensures.items
+    pushed_bytes c.extend_from_slice.result (vec_items c.args.out.now) (vec_items c.extend_from_slice.new.self) (take (c.in-Ok.len - 0) c.cut.new.out)
+    (packet_of o p c.args.job s.content c.args.number) c.extend_from_slice.ensures.items
     (ap (λ k. take k c.cut.new.out) all ∙ cut_bytes s p o c.args.job c.args.number _ c.cut.new.out c.in-Ok.len c.in-Ok.ensures)

@@ -1,12 +1,11 @@
-use Rattle.std.proofs.Common.{◌≡◌, ◌+◌, ◌-◌, ◌≤◌, take, drop, Ok, Err, sym, ap, ◌∙◌, arith}
-use Rattle.std.specs.List.{range_with_len}
+use Rattle.std.proofs.Common.{◌+◌, ◌-◌, take, drop, Ok, Err, ap, ◌∙◌, arith}
 use Rattle.cutting.proofs.Counting.{part_counted, planned_ok, planned_err, planned_same}
 use Rattle.cutting.proofs.plans.make_plan.Goals as goal
 
 pub returns-in-Ok : goal.returns-in-Ok
 returns-in-Ok g c =
     let q = (g.F.Field.ops c.args.field.now).size in
-    let nodes = c.count-up-nodes.ensures in
+    let nodes = c.count_up-nodes.ensures in
     let m = c.from-data.result in
     let r = c.from-2.result in
     let front = ap (λ xs. take (m - 0) xs) nodes ∙ part_counted 0 m 512 (m - 0) (omega arith) (omega arith) in
@@ -17,7 +16,7 @@ returns-in-Ok g c =
 pub returns-in-Err : goal.returns-in-Err
 returns-in-Err g c =
     let q = (g.F.Field.ops c.args.field.now).size in
-    let nodes = c.count-up-nodes.ensures in
+    let nodes = c.count_up-nodes.ensures in
     let m = c.from-data.result in
     let r = c.from-2.result in
     let front = ap (λ xs. take (m - 0) xs) nodes ∙ part_counted 0 m 512 (m - 0) (omega arith) (omega arith) in

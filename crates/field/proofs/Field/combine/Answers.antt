@@ -1,4 +1,4 @@
-use Rattle.std.proofs.Common.{◌≡◌, min, length, take, drop, refl, ap, ◌∙◌, arith, rules}
+use Rattle.std.proofs.Common.{◌≡◌, min, length, take, drop, refl, ap, ◌∙◌, arith}
 use Rattle.field.proofs.Combining.{combined_more, rest_more}
 use Rattle.field.proofs.Field.combine.Goals as goal
 

@@ -1,4 +1,4 @@
-use Rattle.std.proofs.Common.{◌≡◌, ℕ, ◌*◌, ◌<◌, ◌≤◌, length, drop}
+use Rattle.std.proofs.Common.{◌≡◌, ℕ, ◌*◌, ◌<◌, length, drop}
 use Rattle.checks.specs.Checks.{at}
 use Rattle.field.specs.Rows.{numbers, dot, symbol}
 use Rattle.field.proofs.Field.combine.Given as goal

@@ -6,11 +6,11 @@ use Rattle.job.specs.Packing.{digits, laid}
 use Rattle.job.proofs.Laying.{slot_end, slot_is, length-slot, laid_more}
 use Rattle.job.proofs.slots.lay.Goals as goal
 
-pub offset-bounds-message-i : goal.offset-bounds-message-i
-offset-bounds-message-i c = omega (arith, slot_end c.loop-i.i (length c.args.job.now) c.args.count (length c.args.message.now) (omega arith) (omega arith))
+pub offset_bounds-message-i : goal.offset_bounds-message-i
+offset_bounds-message-i c = omega (arith, slot_end c.loop-i.i (length c.args.job.now) c.args.count (length c.args.message.now) (omega arith) (omega arith))
 
-pub slice-bounds-split-end : goal.slice-bounds-split-end
-slice-bounds-split-end c = omega (arith, slot_end c.loop-i.i (length c.args.job.now) c.args.count (length c.args.message.now) (omega arith) (omega arith))
+pub slice_bounds-split-end : goal.slice_bounds-split-end
+slice_bounds-split-end c = omega (arith, slot_end c.loop-i.i (length c.args.job.now) c.args.count (length c.args.message.now) (omega arith) (omega arith))
 
 pub loop-i-preserved : goal.loop-i-preserved
 loop-i-preserved c =

@@ -3,11 +3,11 @@ use Rattle.std.specs.Int.Digits.{number_from_digits}
 use Rattle.job.proofs.Laying.{slot_end, slot_is, lifted_more}
 use Rattle.job.proofs.slots.lift.Goals as goal
 
-pub offset-bounds-message-i : goal.offset-bounds-message-i
-offset-bounds-message-i c = omega (arith, slot_end c.loop-i.i c.args.len c.args.count (length c.args.message.now) (omega arith) (omega arith))
+pub offset_bounds-message-i : goal.offset_bounds-message-i
+offset_bounds-message-i c = omega (arith, slot_end c.loop-i.i c.args.len c.args.count (length c.args.message.now) (omega arith) (omega arith))
 
-pub slice-bounds-join-end : goal.slice-bounds-join-end
-slice-bounds-join-end c = omega (arith, slot_end c.loop-i.i c.args.len c.args.count (length c.args.message.now) (omega arith) (omega arith))
+pub slice_bounds-join-end : goal.slice_bounds-join-end
+slice_bounds-join-end c = omega (arith, slot_end c.loop-i.i c.args.len c.args.count (length c.args.message.now) (omega arith) (omega arith))
 
 pub loop-i-preserved : goal.loop-i-preserved
 loop-i-preserved c =

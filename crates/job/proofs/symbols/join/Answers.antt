@@ -5,11 +5,11 @@ use Rattle.std.specs.Int.Digits.{number_from_digits}
 use Rattle.job.proofs.Digits.{number-front}
 use Rattle.job.proofs.symbols.join.Goals as goal
 
-pub overflow-mul-value : goal.overflow-mul-value
-overflow-mul-value c = omega (arith, number-front c.args.limit _ c.args.symbols.now c.loop-symbol.symbol-index c.loop-symbol.invariant (omega arith) (omega arith))
+pub overflow_mul-value : goal.overflow_mul-value
+overflow_mul-value c = omega (arith, number-front c.args.limit _ c.args.symbols.now c.loop-symbol.symbol-index c.loop-symbol.invariant (omega arith) (omega arith))
 
-pub overflow-add-value : goal.overflow-add-value
-overflow-add-value c = omega (arith, number-front c.args.limit _ c.args.symbols.now c.loop-symbol.symbol-index c.loop-symbol.invariant (omega arith) (omega arith))
+pub overflow_add-value : goal.overflow_add-value
+overflow_add-value c = omega (arith, number-front c.args.limit _ c.args.symbols.now c.loop-symbol.symbol-index c.loop-symbol.invariant (omega arith) (omega arith))
 
 pub loop-symbol-preserved : goal.loop-symbol-preserved
 loop-symbol-preserved c =
@@ -17,8 +17,8 @@ loop-symbol-preserved c =
     let inv = c.loop-symbol.invariant in
     cc
 
-pub overflow-cast-result : goal.overflow-cast-result
-overflow-cast-result c =
+pub overflow_cast-result : goal.overflow_cast-result
+overflow_cast-result c =
     let all = ap (number_from_digits c.args.limit) (take_all c.loop-symbol.symbol-index c.args.symbols.now (omega arith)) in
     omega (arith, c.loop-symbol.invariant, all)
 

@@ -7,7 +7,7 @@ use Rattle.packet.proofs.writes.write_words.Goals as goal
 pub loop-i-preserved : goal.loop-i-preserved
 loop-i-preserved c =
     words_more c.args.from.now c.loop-i.out c.loop-i.i _ _ (omega arith) (omega arith)
-    (ap (λ bs. get_or bs 0 0) c.word-bytes.ensures) (ap (λ bs. get_or bs 1 0) c.word-bytes.ensures) c.loop-i.invariant
+    (ap (λ bs. get_or bs 0 0) c.word_bytes.ensures) (ap (λ bs. get_or bs 1 0) c.word_bytes.ensures) c.loop-i.invariant
 
 pub returns : goal.returns
 returns c =

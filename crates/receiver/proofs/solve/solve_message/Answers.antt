@@ -8,12 +8,12 @@ use Rattle.receiver.proofs.Messages.{rows_more, message_is}
 use Rattle.receiver.proofs.Solved.{some_fits}
 use Rattle.receiver.proofs.solve.solve_message.Goals as goal
 
-pub slice-bounds-row-end : goal.slice-bounds-row-end
-slice-bounds-row-end g c =
-    let len = c.row-len-len.result in
+pub slice_bounds-row-end : goal.slice_bounds-row-end
+slice_bounds-row-end g c =
+    let len = c.row_len-len.result in
     let p = view c.args.plan.now in
     let h : c.loop-n.n * len + len ≤ length c.loop-n.out =
-    rw c.row-len-len.ensures.answers (omega (arith, row_within c.loop-n.n p.m p.L (omega arith))) in
+    rw c.row_len-len.ensures.answers (omega (arith, row_within c.loop-n.n p.m p.L (omega arith))) in
     search rules
 
 pub loop-n-preserved : goal.loop-n-preserved
@@ -21,8 +21,8 @@ loop-n-preserved g c =
     let p = view c.args.plan.now in
     let n = c.loop-n.n in
     let room : n * p.L + p.L ≤ length c.loop-n.out = omega (arith, row_within n p.m p.L (omega arith)) in
-    λ M e. rows_more (row (g.F.Field.ops c.args.field.now) p M) c.loop-n.out c.write-row.new.out n p.L c.row-len-len.result c.row-len-len.ensures.answers
-    room (ap length (c.write-row.ensures M e) ∙ length-row (g.F.Field.ops c.args.field.now) p M n) (c.loop-n.invariant M e) (c.write-row.ensures M e)
+    λ M e. rows_more (row (g.F.Field.ops c.args.field.now) p M) c.loop-n.out c.write_row.new.out n p.L c.row_len-len.result c.row_len-len.ensures.answers
+    room (ap length (c.write_row.ensures M e) ∙ length-row (g.F.Field.ops c.args.field.now) p M n) (c.loop-n.invariant M e) (c.write_row.ensures M e)
 
 pub returns : goal.returns
 returns g c =

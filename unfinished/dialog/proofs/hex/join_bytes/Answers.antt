@@ -9,7 +9,7 @@ loop-k-init c =
 
 pub loop-k-preserved : goal.loop-k-preserved
 loop-k-preserved c =
-    subst (λ (vs : List ℕ). Read symbol c.args.bytes.now (c.loop-k.k + 1) vs) (sym c.in-ok-push.ensures.items)
+    subst (λ (vs : List ℕ). Read symbol c.args.bytes.now (c.loop-k.k + 1) vs) (sym c.in_ok-push.ensures.items)
     (read_more symbol c.args.bytes.now c.loop-k.k (vec_items c.loop-k.symbols) _ c.loop-k-test.true (cc) c.loop-k.invariant)
 
 pub returns-then-bytes-eq1 : goal.returns-then-bytes-eq1

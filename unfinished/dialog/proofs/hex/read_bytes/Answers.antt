@@ -13,7 +13,7 @@ returns-in-None c =
 
 pub loop-k-preserved : goal.loop-k-preserved
 loop-k-preserved c =
-    subst (λ (vs : List ℕ). Read byte c.args.digits.now (c.loop-k.k + 1) vs) (sym c.in-ok-push.ensures.items)
+    subst (λ (vs : List ℕ). Read byte c.args.digits.now (c.loop-k.k + 1) vs) (sym c.in_ok-push.ensures.items)
     (read_more byte c.args.digits.now c.loop-k.k (vec_items c.loop-k.bytes) c.in-Some.b c.loop-k-test.true (sym c.in-Some.ensures) c.loop-k.invariant)
 
 pub returns-then-digits-eq1 : goal.returns-then-digits-eq1

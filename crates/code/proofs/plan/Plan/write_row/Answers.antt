@@ -3,8 +3,8 @@ use Rattle.code.specs.Plans.{view}
 use Rattle.code.proofs.Rows.{row_within, data_row, check_row}
 use Rattle.code.proofs.plan.Plan.write_row.Goals as goal
 
-pub slice-bounds-copy-from-slice-end : goal.slice-bounds-copy-from-slice-end
-slice-bounds-copy-from-slice-end g c =
+pub slice_bounds-copy_from_slice-end : goal.slice_bounds-copy_from_slice-end
+slice_bounds-copy_from_slice-end g c =
     let p = c.args.self.now in
     let h = row_within c.args.number p.data_count p.row_len c.if-number-self.true in
     search rules

@@ -7,4 +7,4 @@ use Rattle.receiver.proofs.receiver.Receiver.is_settled.Goals as goal
 pub returns : goal.returns
 returns c =
     let r = c.args.self.now in
-    ap (λ m. leb m r.count) c.data-count.ensures.answers ∙ settled_by (plan_of r) r.count r.numbers (shelved r.shelf)
+    ap (λ m. leb m r.count) c.data_count.ensures.answers ∙ settled_by (plan_of r) r.count r.numbers (shelved r.shelf)

@@ -5,16 +5,16 @@ use Rattle.receiver.specs.Receivers.{state_of}
 use Rattle.receiver.proofs.Offering.{bytes_small, front-refuses, front-size, front-number, last-refuses, accepts, accepted_reached}
 use Rattle.receiver.proofs.receiver.Receiver.offer.Goals as goal
 
-pub returns-in-err-number : goal.returns-in-err-number
-returns-in-err-number g c =
+pub returns-in_err-number : goal.returns-in_err-number
+returns-in_err-number g c =
     let few : c.args.self.now.count ≤ length c.args.self.now.numbers = omega arith in
-    let e = err_from_is_err_and c.from-residual.result c.from-residual.ensures.1 in
+    let e = err_from_is_err_and c.from_residual.result c.from_residual.ensures.1 in
     rw (e.1, e.2) (record {
       answers = front-refuses (g.F.Field.ops c.args.field.now) (g.met.F.Field.lawful c.args.field.now) c.args.self.now few c.args.bytes.now
-          _ c.examine.new.row c.in-err-number.ensures;
+          _ c.examine.new.row c.in_err-number.ensures;
       leaves = record { plan = refl; job = refl };
       unchanged = λ _. refl;
-      typed = bytes_small c.args.bytes.now c.type-inv.bytes;
+      typed = bytes_small c.args.bytes.now c.type_inv.bytes;
     })
 
 pub against-requires : goal.against-requires
@@ -24,8 +24,8 @@ against-requires g c =
     let o = g.F.Field.ops c.args.field.now in
     let lawful = g.met.F.Field.lawful c.args.field.now in
     record {
-      sized = front-size o lawful r few c.args.bytes.now c.in-ok-number.number c.examine.new.row c.in-ok-number.ensures;
-      within = front-number o lawful r few c.args.bytes.now c.in-ok-number.number c.examine.new.row c.in-ok-number.ensures;
+      sized = front-size o lawful r few c.args.bytes.now c.in_ok-number.number c.examine.new.row c.in_ok-number.ensures;
+      within = front-number o lawful r few c.args.bytes.now c.in_ok-number.number c.examine.new.row c.in_ok-number.ensures;
       fits = omega (arith, c.examine.auto.row);
     }
 
@@ -34,10 +34,10 @@ returns-in-Some g c =
     let few : c.args.self.now.count ≤ length c.args.self.now.numbers = omega arith in
     record {
       answers = last-refuses (g.F.Field.ops c.args.field.now) (g.met.F.Field.lawful c.args.field.now) c.args.self.now few c.args.bytes.now
-          c.in-ok-number.number c.examine.new.row c.in-ok-number.ensures _ c.in-Some.ensures;
+          c.in_ok-number.number c.examine.new.row c.in_ok-number.ensures _ c.in-Some.ensures;
       leaves = record { plan = refl; job = refl };
       unchanged = λ _. refl;
-      typed = bytes_small c.args.bytes.now c.type-inv.bytes;
+      typed = bytes_small c.args.bytes.now c.type_inv.bytes;
     }
 
 pub keep-requires : goal.keep-requires
@@ -46,7 +46,7 @@ keep-requires g c =
     record {
       fits = omega (arith, c.examine.auto.row);
       reaches = accepted_reached (g.F.Field.ops c.args.field.now) (g.met.F.Field.lawful c.args.field.now) c.args.self.now few c.args.bytes.now
-          c.in-ok-number.number c.examine.new.row c.in-ok-number.ensures c.in-default.ensures;
+          c.in_ok-number.number c.examine.new.row c.in_ok-number.ensures c.in_default.ensures;
     }
 
 pub returns : goal.returns
@@ -54,9 +54,9 @@ returns g c =
     let few : c.args.self.now.count ≤ length c.args.self.now.numbers = omega arith in
     record {
       answers = accepts (g.F.Field.ops c.args.field.now) (g.met.F.Field.lawful c.args.field.now) c.args.self.now few c.args.bytes.now
-          c.in-ok-number.number c.examine.new.row c.in-ok-number.ensures c.in-default.ensures
+          c.in_ok-number.number c.examine.new.row c.in_ok-number.ensures c.in_default.ensures
           c.keep.result (state_of c.keep.new.self) c.keep.ensures.leaves c.keep.ensures.answers;
       leaves = c.keep.ensures.unchanged;
       unchanged = λ e. absurd (false≢true e);
-      typed = bytes_small c.args.bytes.now c.type-inv.bytes;
+      typed = bytes_small c.args.bytes.now c.type_inv.bytes;
     }

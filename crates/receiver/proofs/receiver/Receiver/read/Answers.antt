@@ -6,24 +6,24 @@ use Rattle.receiver.proofs.Answering.{read-refuses, read-size, read-long, read_f
 use Rattle.receiver.proofs.Knowing.{given_of, packets-stored}
 use Rattle.receiver.proofs.receiver.Receiver.read.Goals as goal
 
-pub returns-in-err-check-reading : goal.returns-in-err-check-reading
-returns-in-err-check-reading g c =
+pub returns-in_err-check_reading : goal.returns-in_err-check_reading
+returns-in_err-check_reading g c =
     let few : c.args.self.now.count ≤ length c.args.self.now.numbers = omega arith in
-    let e = err_from_is_err_and c.from-residual.result c.from-residual.ensures.1 in
+    let e = err_from_is_err_and c.from_residual.result c.from_residual.ensures.1 in
     rw (e.1, e.2)
     (read-refuses (g.F.Field.ops c.args.field.now) (g.met.F.Field.lawful c.args.field.now) c.args.self.now few c.args.message.now
-    _ c.in-err-check-reading.ensures)
+    _ c.in_err-check_reading.ensures)
 
-pub solve-message-requires : goal.solve-message-requires
-solve-message-requires g c =
+pub solve_message-requires : goal.solve_message-requires
+solve_message-requires g c =
     let r = c.args.self.now in
     let few : r.count ≤ length r.numbers = omega arith in
     let o = g.F.Field.ops c.args.field.now in
     let lawful = g.met.F.Field.lawful c.args.field.now in
-    let ok = c.in-ok-check-reading.ensures in
+    let ok = c.in_ok-check_reading.ensures in
     record {
-      given = given_of r few (read_full o lawful r few c.args.message.now _ ok) c.data-count.result c.message-len.result
-          c.data-count.ensures.answers c.message-len.ensures.answers c.front-rows.result.now c.front-rows.ensures;
+      given = given_of r few (read_full o lawful r few c.args.message.now _ ok) c.data_count.result c.message_len.result
+          c.data_count.ensures.answers c.message_len.ensures.answers c.front-rows.result.now c.front-rows.ensures;
       sized = read-size o lawful r few c.args.message.now _ ok;
       fits = read-long o lawful r few c.args.message.now _ ok;
     }
@@ -34,8 +34,8 @@ returns g c =
     let few : r.count ≤ length r.numbers = omega arith in
     let o = g.F.Field.ops c.args.field.now in
     let lawful = g.met.F.Field.lawful c.args.field.now in
-    let ok = c.in-ok-check-reading.ensures in
-    let out = c.solve-message.new.out in
-    let stored = packets-stored r few (read_full o lawful r few c.args.message.now _ ok) c.data-count.result c.message-len.result
-    c.data-count.ensures.answers c.message-len.ensures.answers c.front-rows.result.now c.front-rows.ensures in
-    reads o lawful r few c.args.message.now _ ok out (subst (Explains o (plan_of r) out) stored c.solve-message.ensures)
+    let ok = c.in_ok-check_reading.ensures in
+    let out = c.solve_message.new.out in
+    let stored = packets-stored r few (read_full o lawful r few c.args.message.now _ ok) c.data_count.result c.message_len.result
+    c.data_count.ensures.answers c.message_len.ensures.answers c.front-rows.result.now c.front-rows.ensures in
+    reads o lawful r few c.args.message.now _ ok out (subst (Explains o (plan_of r) out) stored c.solve_message.ensures)

@@ -8,5 +8,5 @@ returns c =
     let start = c.args.t * length c.args.row.now in
     record {
       room = omega arith;
-      leaves = ap₂ (λ ys zs. take start xs ++ (ys ++ zs)) c.copy-from-slice.ensures.after (Post-is start (start + length c.args.row.now) xs (omega arith));
+      leaves = ap₂ (λ ys zs. take start xs ++ (ys ++ zs)) c.copy_from_slice.ensures.after (Post-is start (start + length c.args.row.now) xs (omega arith));
     }

@@ -16,7 +16,7 @@ loop-t-preserved g c =
     let t = c.loop-t.t in (
       length-set c.loop-t.weights t c.product.result ∙ c.loop-t.invariant.0,
       filled_more (weight (numbers o) (at p.nodes) p.m (at ns)) c.loop-t.weights t c.product.result (omega arith) c.loop-t.invariant.1
-          (weight_is o p ns c.nodes-of-nodes.result (omega (arith, c.args.plan.now.few_data)) c.nodes-of-nodes.ensures.answers
+          (weight_is o p ns c.nodes_of-nodes.result (omega (arith, c.args.plan.now.few_data)) c.nodes_of-nodes.ensures.answers
           (length ns) t c.from.result c.requires.numbered.many (omega (arith, c.requires.numbered.many)) c.from.ensures c.product.ensures c.inverse.ensures
-          c.products-at-products.ensures.slope c.scale-of-scale.ensures),
+          c.products_at-products.ensures.slope c.scale_of-scale.ensures),
     )

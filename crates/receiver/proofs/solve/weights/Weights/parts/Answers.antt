@@ -16,7 +16,7 @@ loop-t-preserved g c =
     let t = c.loop-t.t in (
       length-set c.loop-t.parts t c.product-in-loop-t.result ∙ c.loop-t.invariant.0,
       λ ns w. filled_more (part (numbers o) (at p.nodes) p.m (at ns) n) c.loop-t.parts t c.product-in-loop-t.result (omega arith) (c.loop-t.invariant.1 ns w)
-          (part_is o p ns c.args.self.now.nodes w.room w.nodes c.data-count.result n t c.data-count.ensures.answers (omega arith)
-          (ap (λ xs. at xs n) c.nodes.ensures) c.product-in-loop-t.ensures c.product-common.ensures c.inverse.ensures c.scale-of.ensures
-          c.products-at-products.ensures.away c.product.ensures c.inverse-near.ensures c.difference.ensures (w.weights t (omega arith))),
+          (part_is o p ns c.args.self.now.nodes w.room w.nodes c.data_count.result n t c.data_count.ensures.answers (omega arith)
+          (ap (λ xs. at xs n) c.nodes.ensures) c.product-in-loop-t.ensures c.product-common.ensures c.inverse.ensures c.scale_of.ensures
+          c.products_at-products.ensures.away c.product.ensures c.inverse-near.ensures c.difference.ensures (w.weights t (omega arith))),
     )
