@@ -1,4 +1,7 @@
-"""Runs cutter and joiner on many inputs, and holds what they write to the model."""
+"""Runs cutter and joiner on many inputs, and holds what they write to the model.
+
+    python3 tools/joiner/drive.py crates [SEED [SMALL [BIG]]]      once rt run has built both programs
+"""
 import random
 import subprocess
 import sys
@@ -14,7 +17,7 @@ count = 0
 
 
 def run(program, data):
-    p = subprocess.run([BIN + "/" + program], input=data, stdout=subprocess.PIPE, stderr=subprocess.PIPE, timeout=60)
+    p = subprocess.run([f"{BIN}/{program}/out/{program}"], input=data, stdout=subprocess.PIPE, stderr=subprocess.PIPE, timeout=60)
     assert p.returncode == 0, (program, p.returncode, data.hex())
     return p.stdout, p.stderr
 

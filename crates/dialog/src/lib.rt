@@ -1,0 +1,5 @@
+// The words of a dialog as values, and values as words.
+#![tactic(auto)]
+
+pub mod decimal;
+pub mod hex;
