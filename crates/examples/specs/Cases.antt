@@ -1,11 +1,11 @@
 -- The cases of the worked examples: three small plans, what their packets read as, and a run. Assumes nothing.
 --     plan o ds cs          the plan over the field o with data nodes ds and check nodes cs, with rows of one symbol
---     IsMade o ds cs       this plan is made
+--     IsMade o ds cs        this plan is made
 --     two_and_one           over the prime field: data nodes 0 and 1, check node 2
 --     two_and_two           over the byte field: data nodes 0 and 1, check nodes 2 and 3
 --     one_and_one           over the prime field: data node 0, check node 256
 --     packet n y            packet n with the symbol y
---     ReadsAs o p ks M     the packets ks, if they alone are accepted, are read as the message M
+--     ReadsAs o p ks M      the packets ks, if they alone are accepted, are read as the message M
 --     a_run, after_the_run  calls of a receiver with their answers, and the state that they lead to
 use Rattle.std.specs.Prelude.{◌≡◌, ℕ, ◌*◌, List, [], ◌∷◌, ◌++◌, length, replicate, None}
 use Rattle.binary.specs.Binary.{byte}

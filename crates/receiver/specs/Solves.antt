@@ -10,7 +10,7 @@
 --     PartsBy o p w n fs      the same, of whatever packets w holds
 --     Lacks ns n              none of the numbers is n
 --     First ns n t            n stands at place t and at none before
---     RowOf o p ks n out     out is row n of every message that fits the packets ks
+--     RowOf o p ks n out      out is row n of every message that fits the packets ks
 use Rattle.std.specs.Prelude.{◌≡◌, ℕ, ◌+◌, ◌*◌, ◌<◌, ◌≤◌, List, map, length}
 use Rattle.std.specs.List.{range_with_len}
 use Rattle.checks.specs.Checks.{at}
