@@ -1,9 +1,11 @@
 -- The lowest place where a test passes, and how a search finds it. Assumes nothing.
-use Rattle.std.proofs.Common.{◌≡◌, ℕ, zero, suc, ◌+◌, ◌<◌, Bool, true, false, not, ◌⊎◌, List, length, Some, None, Option, sym, refl, ap, ◌∙◌, inl, inr, ⊎_elim, add-one, arith}
-use Rattle.std.specs.List.{AllByRecursion}
+use Rattle.std.proofs.Common.{◌≡◌, ◌≢◌, ℕ, zero, suc, ◌+◌, ◌<◌, min, Bool, true, false, not, ◌⊎◌, List, length, Some, None, Option, sym, refl, ap, ◌∙◌, inl, inr, ⊎_elim, add-one, arith}
+use Rattle.std.specs.List.{AllByRecursion, AllWithin, HoldsAt, zip}
+use Rattle.std.specs.Option.{MatchOption}
 use Rattle.std.proofs.ByRecursion.{All-from_get_or, All-get_or}
 use Rattle.std.proofs.lemmas.List.{same_lists, get_or_default}
-use Rattle.std.proofs.lemmas.Bool.{cases_eq, leb-false, lt-leb, eqb-true, eq-eqb, not-false}
+use Rattle.std.proofs.lemmas.Bool.{cases_eq, leb-false, lt-leb, eqb-true, eq-eqb, not-false, ne_eqb, not_from_true, not_from_false}
+use Rattle.std.proofs.lemmas.Slice.Zip.{get_or-zip, length-zip}
 use Rattle.checks.specs.Checks.{at, lowest, or_here, too_large, differs}
 
 -- the search goes on
@@ -72,3 +74,26 @@ same_rows xs ys n lx ly none =
 
 pub no_difference : (xs : List ℕ) (n : ℕ) → lowest (differs xs xs) n ≡ None
 no_difference xs n = lowest_none (differs xs xs) n (λ k h. ap not (eq-eqb (at xs k) (at xs k) refl))
+
+-- what a search of the library finds, where its test on the places of a list is p
+pub lowest_position : {X : Type 0} (p : ℕ → Bool) (Yes No : X → Type 0) (xs : List X) (r : Option ℕ)
+    → ((k : ℕ) → k < length xs → HoldsAt Yes xs k → p k ≡ true)
+    → ((k : ℕ) → k < length xs → HoldsAt No xs k → p k ≡ false)
+    → MatchOption r (AllWithin No xs 0 (length xs)) (λ i. (i < length xs) × HoldsAt Yes xs i × AllWithin No xs 0 i)
+    → r ≡ lowest p (length xs)
+lowest_position p Yes No xs None passes fails all = sym (lowest_none p (length xs) (λ k h. fails k h (λ d. all k d (omega arith) h)))
+lowest_position p Yes No xs (Some i) passes fails all =
+    let before : lowest p i ≡ None = lowest_none p i (λ k h. fails k (omega (arith, all.0)) (λ d. all.2 k d (omega arith) h)) in
+    sym (lowest_found p i (length xs) before (passes i all.0 all.1) all.0)
+
+-- the same of a search through two lists at once for a place where they differ
+pub lowest_zip : (xs ys : List ℕ) (r : Option ℕ)
+    → MatchOption r (AllWithin (λ p. p.0 ≡ p.1) (zip xs ys) 0 (length (zip xs ys)))
+      (λ i. (i < length (zip xs ys)) × HoldsAt (λ p. p.0 ≢ p.1) (zip xs ys) i × AllWithin (λ p. p.0 ≡ p.1) (zip xs ys) 0 i)
+    → r ≡ lowest (differs xs ys) (min (length xs) (length ys))
+lowest_zip xs ys r found =
+    let long = length-zip xs ys in
+    rw long at (lowest_position (differs xs ys) (λ p. p.0 ≢ p.1) (λ p. p.0 ≡ p.1) (zip xs ys) r
+    (λ k h here. not_from_false _ (ne_eqb _ _ (rw (get_or-zip xs ys k (0, 0) (omega arith) (omega arith)) at (here (0, 0)))))
+    (λ k h here. not_from_true _ (eq-eqb _ _ (rw (get_or-zip xs ys k (0, 0) (omega arith) (omega arith)) at (here (0, 0)))))
+    found)

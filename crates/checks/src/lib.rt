@@ -10,23 +10,14 @@ pub mod fault;
 pub fn first_large(symbols: &[u16], limit: u32) -> Option<usize>
     ensures { result ≡ lowest (too_large limit symbols.now) (length symbols.now) }
 {
-    for i in 0..symbols.len() {
-        if limit <= u32::from(symbols[i]) {
-            return Some(i);
-        }
-    }
-    None
+    symbols
+        .iter()
+        .position(|symbol| limit <= u32::from(*symbol))
 }
 
 // The first place where two rows differ, as far as both reach.
 pub fn first_difference(a: &[u16], b: &[u16]) -> Option<usize>
     ensures { result ≡ lowest (differs a.now b.now) (min (length a.now) (length b.now)) }
 {
-    let common = a.len().min(b.len());
-    for i in 0..common {
-        if a[i] != b[i] {
-            return Some(i);
-        }
-    }
-    None
+    a.iter().zip(b).position(|(x, y)| x != y)
 }

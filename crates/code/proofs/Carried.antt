@@ -2,8 +2,8 @@
 use Rattle.std.proofs.Common.{◌≡◌, ℕ, zero, suc, ◌<◌, ◌≤◌, sym, refl, ap, ◌∙◌, inl, inr, arith}
 use native.Mathlib.Decide.{le_ind}
 use Rattle.std.proofs.lemmas.Bool.{cases_lt, lt-ltb, le-ltb}
-use Rattle.field.specs.Rows.{Arith, dot}
-use Rattle.code.specs.Packets.{minus, packet}
+use Rattle.field.specs.Rows.{Arith, dot, minus}
+use Rattle.code.specs.Packets.{packet}
 use Rattle.code.specs.Solving.{away, slope, scale, part}
 use Rattle.code.proofs.Sums.{dot_same}
 use Rattle.code.proofs.Ring.{Laws, product-zero, inverse-product, product_cancel, sum-minus, sum_step, part_step}

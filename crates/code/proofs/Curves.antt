@@ -1,8 +1,7 @@
 -- The polynomial of a message, by its nodes and its symbols. Assumes nothing.
 use Rattle.std.proofs.Common.{◌≡◌, ℕ, zero, suc, ◌<◌, sym, refl, ap, ◌∙◌, ap₂, inl, inr, arith}
 use Rattle.std.proofs.lemmas.Bool.{cases_eq}
-use Rattle.field.specs.Rows.{Arith, dot}
-use Rattle.code.specs.Packets.{minus}
+use Rattle.field.specs.Rows.{Arith, dot, minus}
 use Rattle.code.specs.Solving.{away, slope}
 use Rattle.code.proofs.Ring.{Laws, zero-sum, product-zero, zero-product, inverse-product, product_nonzero, minus_self, minus_same, miss_step, hit_step}
 use Rattle.code.proofs.Degrees.{Distinct, Deg, deg_sum, deg_times}

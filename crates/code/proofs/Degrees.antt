@@ -1,7 +1,6 @@
 -- Polynomials of a degree below m, without coefficients: they are known by their values at m points. Assumes nothing.
 use Rattle.std.proofs.Common.{◌≡◌, ℕ, zero, suc, ◌<◌, sym, ap, ◌∙◌, ap₂, arith}
-use Rattle.field.specs.Rows.{Arith}
-use Rattle.code.specs.Packets.{minus}
+use Rattle.field.specs.Rows.{Arith, minus}
 use Rattle.code.proofs.Ring.{Laws, sum-product, sum_cancel, product-zero, product_cancel, minus_same, minus_split, deg_sum_step, deg_times_step}
 
 -- no two of the first m are the same

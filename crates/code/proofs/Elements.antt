@@ -3,7 +3,7 @@ use Rattle.std.proofs.Common.{◌≡◌, ℕ, zero, suc, Bool, true, false, cond
 use mathlib.Core.Path.{fun_ext}
 use Prim.Native.Nat.{Fin}
 use Rattle.field.specs.Field.{Ops, Lawful, sum_of, negative_of, product_of, inverse_of}
-use Rattle.field.specs.Rows.{Arith, numbers, dot}
+use Rattle.field.specs.Rows.{Arith, numbers, dot, minus}
 use Rattle.field.proofs.Total.{
   zero-element,
   one-element,
@@ -21,7 +21,7 @@ use Rattle.field.proofs.Total.{
   product_of-inverse,
   product_of-sum,
 }
-use Rattle.code.specs.Packets.{minus, packet}
+use Rattle.code.specs.Packets.{packet}
 use Rattle.code.specs.Solving.{away, slope, scale, part}
 use Rattle.code.proofs.Ring.{Laws}
 

@@ -1,7 +1,6 @@
 -- The laws of a field whose elements are a type of their own, and the equations of sums and products that follow. Assumes nothing.
 use Rattle.std.proofs.Common.{◌≡◌, sym, ap, ◌∙◌, ap₂}
-use Rattle.field.specs.Rows.{Arith}
-use Rattle.code.specs.Packets.{minus}
+use Rattle.field.specs.Rows.{Arith, minus}
 
 module _ {K : Type 0} (O : Arith K) where
   infixl 65 ◌⊕◌

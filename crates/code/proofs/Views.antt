@@ -3,8 +3,7 @@ use Rattle.std.proofs.Common.{◌≡◌, ℕ, ◌+◌, ◌<◌, sym, ◌∙◌, 
 use Rattle.std.proofs.lemmas.List.{get_or-take, length-take-le}
 use Rattle.checks.specs.Checks.{at}
 use Rattle.field.specs.Field.{Ops, inverse_of}
-use Rattle.field.specs.Rows.{numbers}
-use Rattle.code.specs.Packets.{minus}
+use Rattle.field.specs.Rows.{numbers, minus}
 use Rattle.code.specs.Plans.{view, Sound}
 use Rattle.code.specs.declared.plan.Plan.{Plan}
 

@@ -2,8 +2,7 @@
 use Rattle.std.specs.Prelude.{◌≡◌, ℕ, ◌+◌, ◌*◌, ◌<◌, List, [], ◌∷◌, length, Option, Result, ◌==◌, nat_lt}
 use Rattle.checks.specs.Checks.{at, unless, first, answered, left}
 use Rattle.field.specs.Field.{Ops, inverse_of}
-use Rattle.field.specs.Rows.{numbers}
-use Rattle.code.specs.Packets.{minus}
+use Rattle.field.specs.Rows.{numbers, minus}
 use Rattle.code.specs.Plans.{PlanView}
 use Rattle.code.specs.Rows.{row}
 use Rattle.code.specs.declared.fault.PlanFault.{PlanFault}

@@ -6,8 +6,7 @@
 --     part O x m at n t    what the known packet at t counts for in packet n
 -- The packets' nodes are x, and the known packets are at 0 .. at (m - 1).
 use Rattle.std.specs.Prelude.{ℕ, zero, suc, cond, nat_lt}
-use Rattle.field.specs.Rows.{Arith}
-use Rattle.code.specs.Packets.{minus}
+use Rattle.field.specs.Rows.{Arith, minus}
 
 module _ {K : Type 0} (O : Arith K) where
   infixl 65 ◌⊕◌

@@ -1,7 +1,6 @@
 // Differences in a field.
 ghost use Rattle.std.specs.Prelude.{◌≡◌};
-ghost use Rattle.field.specs.Rows.{numbers};
-ghost use Rattle.code.specs.Packets.{minus};
+ghost use Rattle.field.specs.Rows.{numbers, minus};
 
 use field::Field;
 

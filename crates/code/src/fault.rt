@@ -23,12 +23,12 @@ pub enum PlanFault {
     Number(usize),
 }
 
-impl PlanFault {
-    // The fault as its reader sees it.
-    pub fn named(self) -> Fault
-        ensures { result ≡ plan_fault self }
-    {
-        let (number, place) = match self {
+// The fault as its reader sees it.
+impl From<PlanFault> for Fault {
+    ghost from_gives = { λ e r. r ≡ plan_fault e };
+
+    fn from(fault: PlanFault) -> Fault {
+        let (number, place) = match fault {
             PlanFault::Range(which) => (1, which),
             PlanFault::TooMany(choice) => (2, choice),
             PlanFault::NotElement(position) => (3, position),

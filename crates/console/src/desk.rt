@@ -4,6 +4,7 @@ use crate::calls::{Call, Counts, FieldName, PlanCall, ReceiverCall};
 use crate::fields::over_field;
 use crate::machine::{missing, offered, rebuilt, received};
 use binary::{ByteField, NibbleField};
+use checks::fault::Fault;
 use code::fault::PlanFault;
 use code::plan::Plan;
 use field::{Field, SteppedField};
@@ -25,7 +26,7 @@ pub struct Desk {
 fn made(res: Result<(), PlanFault>) -> Answer {
     match res {
         Ok(()) => Answer::Done,
-        Err(fault) => Answer::Refused(fault.named(), false),
+        Err(fault) => Answer::Refused(Fault::from(fault), false),
     }
 }
 
@@ -33,7 +34,7 @@ fn packed(plan: &Plan, bytes: &[u8], mut message: Vec<u16>) -> Result<Answer, Al
     let before = message.clone()?;
     match pack(plan, bytes, message.as_mut_slice()) {
         Ok(()) => Ok(Answer::Symbols(message)),
-        Err(fault) => Ok(Answer::Refused(fault.named(), message != before)),
+        Err(fault) => Ok(Answer::Refused(Fault::from(fault), message != before)),
     }
 }
 
@@ -46,7 +47,7 @@ fn unpacked(
     let before = job.clone()?;
     match unpack(plan, message, len, job.as_mut_slice()) {
         Ok(()) => Ok(Answer::Bytes(job)),
-        Err(fault) => Ok(Answer::Refused(fault.named(), job != before)),
+        Err(fault) => Ok(Answer::Refused(Fault::from(fault), job != before)),
     }
 }
 

@@ -3,6 +3,7 @@ use crate::answers::Answer;
 use crate::calls::FieldName;
 use crate::fields::over_field;
 use binary::{ByteField, NibbleField};
+use checks::fault::Fault;
 use field::Field;
 use prime::PrimeField;
 use receiver::receiver::Receiver;
@@ -11,7 +12,7 @@ use std::alloc::AllocError;
 pub fn offered(receiver: &mut Receiver, field: FieldName, bytes: &[u8]) -> Answer {
     match over_field!(field, f => receiver.offer(f, bytes)) {
         Ok(count) => Answer::Count(count),
-        Err(fault) => Answer::Refused(fault.named(), false),
+        Err(fault) => Answer::Refused(Fault::from(fault), false),
     }
 }
 
@@ -23,7 +24,7 @@ pub fn received(
     let before = message.clone()?;
     match over_field!(field, f => receiver.read(f, message.as_mut_slice())) {
         Ok(()) => Ok(Answer::Symbols(message)),
-        Err(fault) => Ok(Answer::Refused(fault.named(), message != before)),
+        Err(fault) => Ok(Answer::Refused(Fault::from(fault), message != before)),
     }
 }
 
@@ -36,7 +37,7 @@ pub fn rebuilt(
     let before = out.clone()?;
     match over_field!(field, f => receiver.rebuild(f, number, out.as_mut_slice())) {
         Ok(len) => Ok(Answer::Packet(len, out)),
-        Err(fault) => Ok(Answer::Refused(fault.named(), out != before)),
+        Err(fault) => Ok(Answer::Refused(Fault::from(fault), out != before)),
     }
 }
 

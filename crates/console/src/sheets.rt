@@ -5,6 +5,7 @@ use crate::desk::Desk;
 use crate::fields::over_field;
 use crate::input::{Input, Line};
 use binary::{ByteField, NibbleField};
+use checks::fault::Fault;
 use field::Field;
 use packet::Job;
 use prime::PrimeField;
@@ -16,7 +17,7 @@ use std::io;
 fn laid(sheet: &mut OpenSheet, number: usize, row: &[u16]) -> Answer {
     match sheet.lay(number, row) {
         Ok(()) => Answer::Done,
-        Err(fault) => Answer::Refused(fault.named(), false),
+        Err(fault) => Answer::Refused(Fault::from(fault), false),
     }
 }
 
@@ -33,7 +34,7 @@ fn cut(
         over_field!(field, f => sheet.cut(desk.plan(), f, job, number, out.as_mut_slice()));
     match result {
         Ok(len) => Ok(Answer::Packet(len, out)),
-        Err(fault) => Ok(Answer::Refused(fault.named(), out != before)),
+        Err(fault) => Ok(Answer::Refused(Fault::from(fault), out != before)),
     }
 }
 

@@ -2,6 +2,7 @@
 use crate::JOB;
 use crate::bridge::{Bridge, JOB_NUMBER, PACKET_LEN, STEPS, Step};
 use binary::ByteField;
+use checks::fault::Fault;
 use code::plan::Plan;
 use job::unpack;
 use packet::Job;
@@ -24,7 +25,7 @@ fn reason(fault: ReceiverFault) -> &'static str {
 
 fn print_refusal(rt: &HostRuntime, fault: ReceiverFault) -> io::Result<()> {
     let why = reason(fault);
-    let fault = fault.named();
+    let fault = Fault::from(fault);
     println!(rt; "refused {fault}: {why}")
 }
 
@@ -65,7 +66,7 @@ fn print_read(rt: &HostRuntime, plan: &Plan, message: &[u16]) -> io::Result<()> 
         Ok(()) if &job == JOB => println!(rt; "the job came back, all {} bytes of it", JOB.len()),
         Ok(()) => println!(rt; "another job came back"),
         Err(fault) => {
-            let fault = fault.named();
+            let fault = Fault::from(fault);
             println!(rt; "refused {fault}")
         }
     }

@@ -60,12 +60,12 @@ fn cross(rt: &HostRuntime, plan: &Plan, sheet: &ClosedSheet) -> io::Result<()> {
 fn main(rt: HostRuntime) -> io::Result<()> {
     let mut plan = Plan::new();
     if let Err(fault) = plan.make(&ByteField {}, 4, 3, 8, &[0, 1, 2, 3], &[4, 5, 6]) {
-        return print_refusal(&rt, fault.named());
+        return print_refusal(&rt, Fault::from(fault));
     }
     print_plan(&rt, &plan)?;
     let mut message = [0; MESSAGE_LEN];
     if let Err(fault) = pack(&plan, JOB, &mut message) {
-        return print_refusal(&rt, fault.named());
+        return print_refusal(&rt, Fault::from(fault));
     }
     let mut buffer = [0; MESSAGE_LEN];
     let sheet = lay(&plan, &message, &mut buffer);

@@ -38,7 +38,7 @@ impl From<InputFault> for CutError {
     ghost from_gives = { λ e r. r ≡ Refused (input_named e) };
 
     fn from(fault: InputFault) -> CutError {
-        CutError::Refused(fault.named())
+        CutError::Refused(Fault::from(fault))
     }
 }
 
@@ -46,7 +46,7 @@ impl From<PlanFault> for CutError {
     ghost from_gives = { λ e r. r ≡ Refused (plan_fault e) };
 
     fn from(fault: PlanFault) -> CutError {
-        CutError::Refused(fault.named())
+        CutError::Refused(Fault::from(fault))
     }
 }
 
@@ -54,7 +54,7 @@ impl From<JobFault> for CutError {
     ghost from_gives = { λ e r. r ≡ Refused (job_fault e) };
 
     fn from(fault: JobFault) -> CutError {
-        CutError::Refused(fault.named())
+        CutError::Refused(Fault::from(fault))
     }
 }
 

@@ -34,11 +34,12 @@ pub struct Request<'a> {
     pub job: &'a [u8],
 }
 
-impl InputFault {
-    pub fn named(self) -> Fault
-        ensures { result ≡ input_named self }
-    {
-        let (number, place) = match self {
+// The fault as its reader sees it.
+impl From<InputFault> for Fault {
+    ghost from_gives = { λ e r. r ≡ input_named e };
+
+    fn from(fault: InputFault) -> Fault {
+        let (number, place) = match fault {
             InputFault::Length(count) => (9, count),
             InputFault::Field => (10, 0),
         };

@@ -2,6 +2,7 @@
 #![tactic(auto)]
 
 use binary::NibbleField;
+use checks::fault::Fault;
 use code::fault::PlanFault;
 use code::plan::Plan;
 use prime::PrimeField;
@@ -15,7 +16,7 @@ fn print_plan(rt: &HostRuntime, what: &str, answer: Result<(), PlanFault>) -> io
     match answer {
         Ok(()) => println!(rt; "{what}: made"),
         Err(fault) => {
-            let fault = fault.named();
+            let fault = Fault::from(fault);
             println!(rt; "{what}: refused {fault}")
         }
     }
@@ -25,7 +26,7 @@ fn print_row(rt: &HostRuntime, what: &str, answer: Result<(), SheetFault>) -> io
     match answer {
         Ok(()) => println!(rt; "{what}: laid"),
         Err(fault) => {
-            let fault = fault.named();
+            let fault = Fault::from(fault);
             println!(rt; "{what}: refused {fault}")
         }
     }

@@ -3,7 +3,7 @@ use Rattle.std.proofs.Common.{◌≡◌, ℕ, ◌<◌, [], ◌∷◌, refl, arit
 use Rattle.binary.specs.Binary.{byte, reduced, poly_product, rest}
 use Rattle.binary.specs.Instances.{byte_tested}
 use Rattle.binary.specs.Lookup as binary
-use Rattle.code.specs.Packets.{minus}
+use Rattle.field.specs.Rows.{minus}
 use Rattle.code.specs.Rows.{row}
 use Rattle.field.specs.Field.{inverse_by}
 use Rattle.prime.specs.Prime.{prime}

@@ -1,6 +1,6 @@
 -- The run of the examples, by computing. Assumes nothing.
 use Rattle.std.proofs.Common.{◌≡◌, ℕ, List, [], ◌∷◌, drop, refl, arith}
-use Rattle.code.specs.Packets.{minus}
+use Rattle.field.specs.Rows.{minus}
 use Rattle.code.specs.Rows.{row, Message, Explains}
 use Rattle.field.specs.Field.{inverse_by}
 use Rattle.packet.specs.Layout.{laid}

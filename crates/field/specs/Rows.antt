@@ -1,6 +1,7 @@
 -- Sums of products over rows of symbols. Assumes nothing.
 --     Arith K                   the operations over any type of elements
 --     numbers o                 the numbers of a program, with a field's operations
+--     minus O a b               the difference of a and b
 --     dot O c u m               the sum over j below m of c j · u j
 --     symbol rows len s j       symbol s of row j, where rows of len symbols stand one behind the other
 --     Added o k row old new     k times the row is added, as far as the row reaches
@@ -20,6 +21,10 @@ pub record Arith (K : Type 0) : Type 0 where
 
 abbrev pub numbers : Ops → Arith ℕ
 numbers o = record { 𝟘 = 0; 𝟙 = 1; ◌⊕◌ = sum_of o; neg = negative_of o; ◌⊗◌ = product_of o; inv = inverse_of o }
+
+-- a plus the negative of b
+unfoldable pub minus : {K : Type 0} → Arith K → K → K → K
+minus O a b = O.◌⊕◌ a (O.neg b)
 
 -- the sum over j below m of c j · u j
 abbrev pub dot : {K : Type 0} → Arith K → (ℕ → K) → (ℕ → K) → ℕ → K

@@ -3,7 +3,7 @@
 
 ghost use Rattle.std.specs.Prelude.{◌≡◌, ℕ, ◌<◌, length};
 ghost use Rattle.field.specs.Field.{Ops, Lawful, Steps, sum_of, negative_of, product_of, inverse_of};
-ghost use Rattle.field.specs.Rows.{Added, Combined};
+ghost use Rattle.field.specs.Rows.{numbers, minus, Added, Combined};
 
 // A finite field. Its elements are the numbers below its size, and any other number counts as 0.
 pub trait Field {
@@ -24,6 +24,13 @@ pub trait Field {
     // The inverse of 0 is 0.
     fn inverse(&self, a: u16) -> u16
         ensures { result ≡ inverse_of (ops self.now) a };
+
+    // `a` plus the negative of `b`.
+    fn difference(&self, a: u16, b: u16) -> u16
+        ensures { result ≡ minus (numbers (ops self.now)) a b }
+    {
+        self.sum(a, self.negative(b))
+    }
 
     // Adds `factor` times `row` to `into`, symbol by symbol, as far as both reach.
     fn add_multiple(&self, factor: u16, row: &[u16], into: &mut [u16])

@@ -17,12 +17,12 @@ pub enum JobFault {
     Rest(usize),
 }
 
-impl JobFault {
-    // The fault as its reader sees it.
-    pub fn named(self) -> Fault
-        ensures { result ≡ job_fault self }
-    {
-        let (number, place) = match self {
+// The fault as its reader sees it.
+impl From<JobFault> for Fault {
+    ghost from_gives = { λ e r. r ≡ job_fault e };
+
+    fn from(fault: JobFault) -> Fault {
+        let (number, place) = match fault {
             JobFault::Count(wanted) => (5, wanted),
             JobFault::Capacity(most) => (15, most),
             JobFault::Symbol(place) => (16, place),

@@ -5,6 +5,7 @@
 mod panel;
 
 use binary::{ByteField, NibbleField};
+use checks::fault::Fault;
 use code::plan::Plan;
 use cutting::request::FieldChoice;
 use field::Field;
@@ -51,7 +52,7 @@ fn write_job<F: Field>(
 ) -> io::Result<()> {
     let mut room = [0u8; SHELF_LEN];
     if let Err(fault) = read_job(field, plan, receiver, len, &mut room) {
-        return print_no_job(rt, fault.named());
+        return print_no_job(rt, Fault::from(fault));
     }
     eprintln!(rt; "joined    {len} bytes")?;
     match room.get(0..len) {
@@ -81,7 +82,7 @@ fn join_over<F: Field>(
 ) -> io::Result<()> {
     match heading.plan(field) {
         Ok(plan) => receive(rt, field, &plan, heading.job, packets),
-        Err(fault) => print_no_job(rt, fault.named()),
+        Err(fault) => print_no_job(rt, Fault::from(fault)),
     }
 }
 
@@ -93,7 +94,7 @@ fn join(rt: &HostRuntime, packets: &[u8]) -> io::Result<()> {
         Ok(FieldChoice::Byte) => join_over(rt, &ByteField {}, heading, packets),
         Ok(FieldChoice::Nibble) => join_over(rt, &NibbleField {}, heading, packets),
         Ok(FieldChoice::Prime) => join_over(rt, &PrimeField {}, heading, packets),
-        Err(fault) => print_no_job(rt, fault.named()),
+        Err(fault) => print_no_job(rt, Fault::from(fault)),
     }
 }
 
@@ -106,6 +107,6 @@ fn main(rt: HostRuntime) -> io::Result<()> {
             eprintln!(rt; "passed    {passed} bytes in front of the first packet")?;
             join(&rt, &bytes[passed..])
         }
-        None => print_no_job(&rt, JoinFault::NoPacket(bytes.len()).named()),
+        None => print_no_job(&rt, Fault::from(JoinFault::NoPacket(bytes.len()))),
     }
 }

@@ -36,7 +36,7 @@ pub(crate) fn print_refusal(
     place: usize,
     fault: ReceiverFault,
 ) -> io::Result<()> {
-    let fault = fault.named();
+    let fault = Fault::from(fault);
     eprintln!(rt; "refused   {fault}, packet {place} of the input")
 }
 

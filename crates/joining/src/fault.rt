@@ -34,16 +34,16 @@ impl From<JobFault> for JoinFault {
     }
 }
 
-impl JoinFault {
-    // The fault as its reader sees it.
-    pub fn named(self) -> Fault
-        ensures { result ≡ join_fault self }
-    {
-        let (number, place) = match self {
+// The fault as its reader sees it.
+impl From<JoinFault> for Fault {
+    ghost from_gives = { λ e r. r ≡ join_fault e };
+
+    fn from(fault: JoinFault) -> Fault {
+        let (number, place) = match fault {
             JoinFault::NoPacket(bytes) => (9, bytes),
             JoinFault::NoField(place) => (10, place),
-            JoinFault::Receiver(fault) => return fault.named(),
-            JoinFault::Job(fault) => return fault.named(),
+            JoinFault::Receiver(fault) => return Fault::from(fault),
+            JoinFault::Job(fault) => return Fault::from(fault),
         };
         Fault {
             layer: Layer::Input,

@@ -35,7 +35,7 @@ fn refuses_plan<F: Field>(
         Ok(_) => Err(Fail::new("made, and not refused")),
         Err(fault) => {
             assert_eq!(rt;
-                fault.named(),
+                Fault::from(fault),
                 Fault {
                     layer: Layer::Plan,
                     number,
@@ -70,7 +70,7 @@ fn a_size_without_a_field_is_refused(rt: HostRuntime) -> Result<(), Fail> {
         Ok(_) => Err(Fail::new("there is no field of 255")),
         Err(fault) => {
             assert_eq!(rt;
-                fault.named(),
+                Fault::from(fault),
                 Fault {
                     layer: Layer::Input,
                     number: 10,

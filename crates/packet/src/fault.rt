@@ -15,12 +15,12 @@ pub enum PacketFault {
     Layout(usize),
 }
 
-impl PacketFault {
-    // The fault as its reader sees it.
-    pub fn named(self) -> Fault
-        ensures { result ≡ packet_fault self }
-    {
-        let (number, place) = match self {
+// The fault as its reader sees it.
+impl From<PacketFault> for Fault {
+    ghost from_gives = { λ e r. r ≡ packet_fault e };
+
+    fn from(fault: PacketFault) -> Fault {
+        let (number, place) = match fault {
             PacketFault::Count(wanted) => (5, wanted),
             PacketFault::Length(bytes) => (9, bytes),
             PacketFault::Layout(place) => (10, place),

@@ -3,12 +3,11 @@ use Rattle.std.proofs.Common.{◌≡◌, ℕ, ◌-◌, ◌<◌, ◌≤◌, List,
 use Rattle.std.proofs.lemmas.List.{length-take-le, get_or-take}
 use Rattle.std.proofs.lemmas.Bool.{cond_below, cond_above}
 use Rattle.checks.specs.Checks.{at}
-use Rattle.code.specs.Packets.{minus}
 use Rattle.code.specs.Plans.{PlanView}
 use Rattle.code.specs.Solving.{away, slope, scale, weight, part}
 use Rattle.code.proofs.Sums.{away_same, slope_same}
 use Rattle.field.specs.Field.{Ops, product_of, inverse_of}
-use Rattle.field.specs.Rows.{Arith, numbers}
+use Rattle.field.specs.Rows.{Arith, numbers, minus}
 use Rattle.receiver.specs.Solves.{Placed}
 
 module _ (O : Arith ℕ) (m : ℕ) (x : ℕ → ℕ) (xs : List ℕ) (room : m ≤ length xs) (same : (k : ℕ) → k < m → at xs k ≡ x k) (z : ℕ) where

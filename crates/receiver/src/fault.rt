@@ -36,12 +36,13 @@ impl From<PacketFault> for ReceiverFault {
     }
 }
 
-impl ReceiverFault {
-    pub fn named(self) -> Fault
-        ensures { result ≡ receiver_fault self }
-    {
-        let (number, place) = match self {
-            ReceiverFault::Packet(fault) => return fault.named(),
+// The fault as its reader sees it.
+impl From<ReceiverFault> for Fault {
+    ghost from_gives = { λ e r. r ≡ receiver_fault e };
+
+    fn from(fault: ReceiverFault) -> Fault {
+        let (number, place) = match fault {
+            ReceiverFault::Packet(fault) => return Fault::from(fault),
             ReceiverFault::Count(wanted) => (5, wanted),
             ReceiverFault::OtherField(size) => (6, size),
             ReceiverFault::Symbol(place) => (7, place),

@@ -17,11 +17,12 @@ pub enum SheetFault {
     Number(usize),
 }
 
-impl SheetFault {
-    pub fn named(self) -> Fault
-        ensures { result ≡ sheet_named self }
-    {
-        let (number, place) = match self {
+// The fault as its reader sees it.
+impl From<SheetFault> for Fault {
+    ghost from_gives = { λ e r. r ≡ sheet_named e };
+
+    fn from(fault: SheetFault) -> Fault {
+        let (number, place) = match fault {
             SheetFault::Count(wanted) => (5, wanted),
             SheetFault::OtherField(size) => (6, size),
             SheetFault::Symbol(place) => (7, place),

@@ -30,7 +30,7 @@ fn print_packet(rt: &HostRuntime, bytes: &[u8]) -> io::Result<()> {
             print!(rt; "packet {number}  check  row")?;
             print_bytes(rt, row)
         }
-        Err(fault) => print_refusal(rt, fault.named()),
+        Err(fault) => print_refusal(rt, Fault::from(fault)),
     }
 }
 
@@ -73,7 +73,7 @@ fn print_packets(rt: &HostRuntime, plan: &Plan, packets: &[u8]) -> io::Result<()
 fn main(rt: HostRuntime) -> io::Result<()> {
     let mut plan = Plan::new();
     if let Err(fault) = plan.make(&ByteField {}, 5, 3, 16, &[0, 1, 2, 3, 4], &[5, 6, 7]) {
-        return print_refusal(&rt, fault.named());
+        return print_refusal(&rt, Fault::from(fault));
     }
     let count = INPUT.len() - 4;
     println!(rt; "job       {count} bytes: parts and positions of one panel")?;

@@ -1,13 +1,12 @@
-use Rattle.std.proofs.Common.{min, length, sym, arith}
-use Rattle.std.proofs.lemmas.Bool.{ne_eqb, eq-eqb, not_from_true, not_from_false}
-use Rattle.checks.specs.Checks.{differs}
-use Rattle.checks.proofs.Lowest.{lowest_more, lowest_found}
+use Rattle.std.proofs.Common.{rules, ◌≡◌, ◌≢◌, refl}
+use Rattle.std.proofs.lemmas.Iterator.{YieldsList-from_slice, YieldsList-from_zip, IsFirst-from_position}
+use borrow.Author.Tests.{tests}
+use Rattle.checks.proofs.Lowest.{lowest_zip}
 use Rattle.checks.proofs.first_difference.Goals as goal
 
-pub returns-then-a-i : goal.returns-then-a-i
-returns-then-a-i c =
-    sym (lowest_found (differs c.args.a.now c.args.b.now) c.loop-i.i (min (length c.args.a.now) (length c.args.b.now)) c.loop-i.invariant
-    (not_from_false _ (ne_eqb _ _ (omega arith))) (omega arith))
-
-pub loop-i-preserved : goal.loop-i-preserved
-loop-i-preserved c = lowest_more (differs c.args.a.now c.args.b.now) c.loop-i.i c.loop-i.invariant (not_from_true _ (eq-eqb _ _ (omega arith)))
+pub returns : goal.returns
+returns c =
+    lowest_zip c.args.a.now c.args.b.now c.position.result
+    (IsFirst-from_position c.position.new.self _ c.position.result (λ p. p.0 ≢ p.1) (λ p. p.0 ≡ p.1) c.position.ensures.ran
+    (YieldsList-from_zip (YieldsList-from_slice c.args.a.now cc) (YieldsList-from_slice c.args.b.now cc))
+    (λ x q k. search (rules, tests)) (λ x q k. search (rules, tests)))

@@ -1,8 +1,7 @@
 // What each of m known packets counts for in any other.
 ghost use Rattle.std.specs.Prelude.{◌≡◌, ◌+◌, ◌<◌, length};
-ghost use Rattle.code.specs.Packets.{minus};
 ghost use Rattle.code.specs.Plans.{view};
-ghost use Rattle.field.specs.Rows.{numbers as numbers_of};
+ghost use Rattle.field.specs.Rows.{numbers as numbers_of, minus};
 ghost use Rattle.receiver.specs.Solves.{Numbered, Placed, ProductsAt, scale_in, Weighs, PartsBy};
 
 use code::plan::Plan;

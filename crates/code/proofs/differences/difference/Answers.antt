@@ -1,4 +1,4 @@
-use Rattle.code.specs.Packets.{minus}
+use Rattle.field.specs.Rows.{minus}
 use Rattle.code.proofs.differences.difference.Goals as goal
 
 pub returns : goal.returns

@@ -2,8 +2,7 @@ use Rattle.std.proofs.Common.{◌∙◌, arith}
 use Rattle.std.proofs.lemmas.List.{length-set}
 use Rattle.checks.specs.Checks.{at}
 use Rattle.field.specs.Field.{inverse_of}
-use Rattle.field.specs.Rows.{numbers}
-use Rattle.code.specs.Packets.{minus}
+use Rattle.field.specs.Rows.{numbers, minus}
 use Rattle.code.specs.Plans.{view}
 use Rattle.code.proofs.Filled.{filled_more}
 use Rattle.code.proofs.Views.{factor_is}

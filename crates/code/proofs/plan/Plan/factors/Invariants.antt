@@ -1,8 +1,7 @@
 use Rattle.std.proofs.Common.{◌≡◌, ℕ, ◌<◌, length}
 use Rattle.checks.specs.Checks.{at}
 use Rattle.field.specs.Field.{inverse_of}
-use Rattle.field.specs.Rows.{numbers}
-use Rattle.code.specs.Packets.{minus}
+use Rattle.field.specs.Rows.{numbers, minus}
 use Rattle.code.specs.Plans.{view}
 use Rattle.code.proofs.plan.Plan.factors.Given as goal
 
