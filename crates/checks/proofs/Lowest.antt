@@ -1,5 +1,5 @@
 -- The lowest place where a test passes, and how a search finds it. Assumes nothing.
-use Rattle.std.proofs.Common.{◌≡◌, ◌≢◌, ℕ, zero, suc, ◌+◌, ◌<◌, min, Bool, true, false, not, ◌⊎◌, List, length, Some, None, Option, sym, refl, ap, ◌∙◌, inl, inr, ⊎_elim, add-one, arith}
+use Rattle.std.proofs.Common.{◌≡◌, ◌≢◌, ℕ, zero, suc, ◌+◌, ◌<◌, min, Bool, true, false, not, ◌⊎◌, List, length, Some, None, is_some, Option, sym, refl, ap, ◌∙◌, inl, inr, ⊎_elim, add-one, arith}
 use Rattle.std.specs.List.{AllByRecursion, AllWithin, HoldsAt, zip}
 use Rattle.std.specs.Option.{MatchOption}
 use Rattle.std.proofs.ByRecursion.{All-from_get_or, All-get_or}
@@ -89,7 +89,7 @@ lowest_position p Yes No xs (Some i) passes fails all =
 -- the same of a search through two lists at once for a place where they differ
 pub lowest_zip : (xs ys : List ℕ) (r : Option ℕ)
     → MatchOption r (AllWithin (λ p. p.0 ≡ p.1) (zip xs ys) 0 (length (zip xs ys)))
-      (λ i. (i < length (zip xs ys)) × HoldsAt (λ p. p.0 ≢ p.1) (zip xs ys) i × AllWithin (λ p. p.0 ≡ p.1) (zip xs ys) 0 i)
+    (λ i. (i < length (zip xs ys)) × HoldsAt (λ p. p.0 ≢ p.1) (zip xs ys) i × AllWithin (λ p. p.0 ≡ p.1) (zip xs ys) 0 i)
     → r ≡ lowest (differs xs ys) (min (length xs) (length ys))
 lowest_zip xs ys r found =
     let long = length-zip xs ys in
@@ -97,3 +97,11 @@ lowest_zip xs ys r found =
     (λ k h here. not_from_false _ (ne_eqb _ _ (rw (get_or-zip xs ys k (0, 0) (omega arith) (omega arith)) at (here (0, 0)))))
     (λ k h here. not_from_true _ (eq-eqb _ _ (rw (get_or-zip xs ys k (0, 0) (omega arith) (omega arith)) at (here (0, 0)))))
     found)
+
+any_here : (p : ℕ → Bool) (n k : ℕ) → k < n → p k ≡ true → (o : Option ℕ) → lowest p n ≡ o → is_some o ≡ true
+any_here p n k h passes (Some i) e = refl
+any_here p n k h passes None e = let fails = none_passes p n k e h in cc
+
+-- where one passes one is found
+pub lowest_any : (p : ℕ → Bool) (n k : ℕ) → k < n → p k ≡ true → is_some (lowest p n) ≡ true
+lowest_any p n k h passes = any_here p n k h passes (lowest p n) refl

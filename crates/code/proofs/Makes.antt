@@ -1,10 +1,12 @@
 -- What the checks of a making say of the plan that is made. Assumes nothing.
-use Rattle.std.proofs.Common.{◌≡◌, ℕ, zero, suc, ◌+◌, ◌-◌, ◌<◌, ◌≤◌, Bool, true, false, eqb, leb, List, ◌++◌, length, take, is_some, Some, None, Ok, Option, sym, refl, ap, ◌∙◌, add-one, arith}
+use Rattle.std.proofs.Common.{◌≡◌, ℕ, zero, suc, ◌+◌, ◌-◌, ◌<◌, ◌≤◌, Bool, true, false, eqb, leb, List, ◌++◌, length, take, drop, is_some, Some, None, Ok, Option, sym, refl, ap, ◌∙◌, add-one, arith}
 use Rattle.std.proofs.lemmas.List.FromFn.{get_or-map-range_with_len}
-use Rattle.std.proofs.lemmas.List.{get_or-take, length-append}
+use Rattle.std.proofs.lemmas.List.{get_or-take, length-take-le, length-append}
+use Rattle.std.specs.List.{IsAnyAnswer}
+use Rattle.std.proofs.Math.Seq.{take-append_seam}
 use Rattle.std.proofs.lemmas.Bool.{and_parts, leb-true, leb-false, eqb-false, both_ways}
 use Rattle.checks.specs.Checks.{at, first, answered, lowest, too_large}
-use Rattle.checks.proofs.Lowest.{none_passes}
+use Rattle.checks.proofs.Lowest.{none_passes, lowest_none, lowest_any}
 use Rattle.checks.proofs.Order.{first_none, unless_none}
 use Rattle.field.specs.Field.{Ops, Lawful, Steps, product_of, power}
 use Rattle.field.proofs.Total.{one-element, product_of-element}
@@ -88,3 +90,22 @@ module _ {o : Ops} (laws : Lawful o) (g k : ℕ) (all : List ℕ) (is : take k a
   powers_apart p steps few i j h lt same =
       let e = steps.all_different j i (omega arith) (omega arith) (sym (power_at j (omega arith)) ∙ same ∙ power_at i h) in
       omega arith
+
+-- a search among the nodes in front of place i tells whether its node is repeated
+pub repeated_is : (nodes : List ℕ) (i : ℕ) (r : Bool) → i ≤ length nodes
+    → IsAnyAnswer (λ y b. eqb y (at nodes i) ≡ b) (take i nodes) r → repeated nodes i ≡ r
+repeated_is nodes i true within found =
+    let long = length-take-le i nodes within in
+    let below : found.0 < i = omega arith in
+    lowest_any (λ j. eqb (at nodes j) (at nodes i)) i found.0 below (rw (get_or-take i nodes found.0 0 below) at (found.2 0))
+repeated_is nodes i false within found =
+    let long = length-take-le i nodes within in
+    ap is_some (lowest_none (λ j. eqb (at nodes j) (at nodes i)) i
+    (λ k h. rw (get_or-take i nodes k 0 h) at (found k 0 (omega arith) (omega arith))))
+
+-- the powers stand in front of what they were written over
+pub front_of : (o : Ops) (g : ℕ) (ps xs : List ℕ) (k : ℕ) → ps ≡ standard_nodes o g (length (take k xs)) → length ps ≡ length (take k xs) → k ≤ length xs
+    → take k (ps ++ drop k xs) ≡ standard_nodes o g k
+front_of o g ps xs k same long within =
+    let e : length ps ≡ k = long ∙ length-take-le k xs within in
+    rw (← e) (take-append_seam ps (drop (length ps) xs)) ∙ same ∙ ap (standard_nodes o g) (length-take-le k xs within)

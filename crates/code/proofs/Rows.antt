@@ -1,5 +1,5 @@
 -- The row of a packet, symbol by symbol. Assumes nothing.
-use Rattle.std.proofs.Common.{◌≡◌, ℕ, ◌+◌, ◌-◌, ◌*◌, ◌<◌, ◌≤◌, List, length, take, refl, ap, ◌∙◌, add-mul, arith}
+use Rattle.std.proofs.Common.{◌≡◌, ℕ, ◌+◌, ◌*◌, ◌<◌, ◌≤◌, List, length, take, refl, ap, ◌∙◌, add-mul, arith}
 use Rattle.std.specs.List.{between}
 use Rattle.std.proofs.lemmas.Nat.{mul-le}
 use Rattle.std.proofs.lemmas.List.FromFn.{length-map-range_with_len, get_or-map-range_with_len, fill_by_all}
@@ -41,8 +41,7 @@ module _ (o : Ops) (p : PlanView) (M : List ℕ) (n : ℕ) where
 
   -- and a check packet the sum of the rows, each times its factor
   pub check_row : (factors out : List ℕ) → p.m ≤ n → p.m ≤ length factors → length out ≡ p.L
-      → Factors o p n factors → Combined o (take (p.m - 0) factors) M out → out ≡ row o p M n
+      → Factors o p n factors → Combined o (take p.m factors) M out → out ≡ row o p M n
   check_row factors out l room long are sums = row_is out long (λ s h.
-      let front : p.m - 0 ≡ p.m = omega arith in
-      sums s (omega arith) ∙ rw (front, long, length-take-le p.m factors room)
+      sums s (omega arith) ∙ rw (long, length-take-le p.m factors room)
       (dot_same (numbers o) _ _ _ _ p.m (λ j k. get_or-take p.m factors j 0 k ∙ are j k) (λ j k. refl) ∙ cond_above n p.m _ _ _ l refl))

@@ -22,7 +22,7 @@ module _ (p : Plan) where
     L_most = p.few_symbols;
     q_least = p.least_size;
     q_most = p.most_size;
-    a_node_each = length-take-le (p.data_count + p.check_count) p.nodes (omega (arith, p.room, p.few_data, p.few_checks));
+    a_node_each = length-take-le (p.counts.data_count + p.counts.check_count) p.nodes (omega (arith, p.room, p.few_data, p.few_checks));
     elements = λ i h. rw (view_node i h) (p.elements i h);
     different = λ i j h l same. p.apart i j h l (sym (view_node j (omega arith)) ∙ same ∙ view_node i h);
   }

@@ -15,11 +15,11 @@ pub record PlanView : Type 0 where
 
 abbrev pub view : Plan → PlanView
 view p = record {
-  m = p.data_count;
-  r = p.check_count;
-  L = p.row_len;
+  m = p.counts.data_count;
+  r = p.counts.check_count;
+  L = p.counts.row_len;
   q = p.size;
-  nodes = take (p.data_count + p.check_count) p.nodes;
+  nodes = take (p.counts.data_count + p.counts.check_count) p.nodes;
 }
 
 -- what a plan's place holds before its first making

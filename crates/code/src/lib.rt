@@ -1,6 +1,5 @@
 // The code: plans, the row of each packet, and the theorem that any m packets settle the message.
 #![tactic(auto)]
 
-mod differences;
 pub mod fault;
 pub mod plan;

@@ -37,8 +37,8 @@ pub trait Field {
         ensures { Added (ops self.now) factor row.now into.old into.new }
     {
         let common = row.len().min(into.len());
-        for s in 0..common {
-            into[s] = self.sum(into[s], self.product(factor, row[s]));
+        for (s, symbol) in row[..common].iter().enumerate() {
+            into[s] = self.sum(into[s], self.product(factor, *symbol));
         }
     }
 

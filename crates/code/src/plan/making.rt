@@ -1,31 +1,12 @@
 // Making a plan of given nodes.
 ghost use Rattle.std.specs.Prelude.{◌≡◌, ◌+◌, ◌<◌, ◌≤◌, ◌++◌, length, take};
-ghost use Rattle.checks.specs.Checks.{first, answered, lowest};
-ghost use Rattle.code.specs.Making.{range_checks, repeated, making_checks, plan_of, Made};
+ghost use Rattle.checks.specs.Checks.{lowest};
+ghost use Rattle.code.specs.Making.{repeated, making_checks, plan_of, Made};
 
-use super::{MOST_NODES, MOST_PACKETS, MOST_SYMBOLS, Plan};
+use super::{Counts, MOST_NODES, Plan};
 use crate::fault::PlanFault;
 use checks::first_large;
 use field::Field;
-
-pub(crate) fn check_ranges(
-    data_count: usize,
-    check_count: usize,
-    row_len: usize,
-) -> Result<(), PlanFault>
-    ensures { result ≡ answered (first (range_checks data_count check_count row_len)) tt }
-{
-    if data_count < 1 || data_count > MOST_PACKETS {
-        return Err(PlanFault::Range(0));
-    }
-    if check_count < 1 || check_count > MOST_PACKETS {
-        return Err(PlanFault::Range(1));
-    }
-    if row_len < 1 || row_len > MOST_SYMBOLS {
-        return Err(PlanFault::Range(2));
-    }
-    Ok(())
-}
 
 // The nodes written from place `start` on.
 fn written(mut all: [u16; MOST_NODES], start: usize, nodes: &[u16]) -> [u16; MOST_NODES]
@@ -48,24 +29,12 @@ fn joined(front: &[u16], back: &[u16]) -> [u16; MOST_NODES]
     written(all, front.len(), back)
 }
 
-fn is_repeated(nodes: &[u16], i: usize) -> bool
-    requires within { i < length nodes.now }
-    ensures { result ≡ repeated nodes.now i }
-{
-    for j in 0..i {
-        if nodes[j] == nodes[i] {
-            return true;
-        }
-    }
-    false
-}
-
 // The place of the first node that stands earlier too.
 fn first_repeated(nodes: &[u16]) -> Option<usize>
     ensures { result ≡ lowest (repeated nodes.now) (length nodes.now) }
 {
-    for i in 0..nodes.len() {
-        if is_repeated(nodes, i) {
+    for (i, node) in nodes.iter().enumerate() {
+        if nodes[..i].contains(node) {
             return Some(i);
         }
     }
@@ -77,42 +46,38 @@ impl Plan {
     pub fn make<F: Field>(
         &mut self,
         field: &F,
-        data_count: usize,
-        check_count: usize,
-        row_len: usize,
+        counts: Counts,
         data_nodes: &[u16],
         check_nodes: &[u16],
     ) -> Result<(), PlanFault>
         ensures { Made
-            (making_checks data_count check_count row_len (F.ops field.now).size
+            (making_checks counts.data_count counts.check_count counts.row_len (F.ops field.now).size
             data_nodes.now check_nodes.now)
-            (plan_of data_count check_count row_len (F.ops field.now).size
+            (plan_of counts.data_count counts.check_count counts.row_len (F.ops field.now).size
             (data_nodes.now ++ check_nodes.now))
             self.old self.new result }
     {
-        check_ranges(data_count, check_count, row_len)?;
+        counts.check()?;
         let size = field.size();
-        let count = data_count + check_count;
+        let count = counts.data_count + counts.check_count;
         if count > size as usize {
             return Err(PlanFault::TooMany(size as usize));
         }
-        if data_nodes.len() != data_count {
-            return Err(PlanFault::Count(data_count));
+        if data_nodes.len() != counts.data_count {
+            return Err(PlanFault::Count(counts.data_count));
         }
-        if check_nodes.len() != check_count {
-            return Err(PlanFault::Count(check_count));
+        if check_nodes.len() != counts.check_count {
+            return Err(PlanFault::Count(counts.check_count));
         }
         let nodes = joined(data_nodes, check_nodes);
-        if let Some(place) = first_large(&nodes[0..count], size) {
+        if let Some(place) = first_large(&nodes[..count], size) {
             return Err(PlanFault::NotElement(place));
         }
-        if let Some(place) = first_repeated(&nodes[0..count]) {
+        if let Some(place) = first_repeated(&nodes[..count]) {
             return Err(PlanFault::Repeated(place));
         }
         *self = Plan {
-            data_count,
-            check_count,
-            row_len,
+            counts,
             size,
             nodes,
         };

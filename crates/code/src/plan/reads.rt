@@ -2,7 +2,7 @@
 ghost use Rattle.std.specs.Prelude.{◌≡◌, ◌≤◌};
 ghost use Rattle.code.specs.Plans.{view, unmade};
 
-use super::{MOST_NODES, Plan};
+use super::{Counts, MOST_NODES, Plan};
 
 impl Plan {
     // What a plan's place holds before its first making.
@@ -12,9 +12,11 @@ impl Plan {
         let mut nodes = [0; MOST_NODES];
         nodes[1] = 1;
         Plan {
-            data_count: 1,
-            check_count: 1,
-            row_len: 1,
+            counts: Counts {
+                data_count: 1,
+                check_count: 1,
+                row_len: 1,
+            },
             size: 2,
             nodes,
         }
@@ -24,14 +26,14 @@ impl Plan {
         ensures answers { result ≡ (view self.now).m }
         ensures bounds { (1 ≤ result) × (result ≤ 64) }
     {
-        self.data_count
+        self.counts.data_count
     }
 
     pub fn check_count(&self) -> usize
         ensures answers { result ≡ (view self.now).r }
         ensures bounds { (1 ≤ result) × (result ≤ 64) }
     {
-        self.check_count
+        self.counts.check_count
     }
 
     // The symbols of a row.
@@ -39,7 +41,7 @@ impl Plan {
         ensures answers { result ≡ (view self.now).L }
         ensures bounds { (1 ≤ result) × (result ≤ 128) }
     {
-        self.row_len
+        self.counts.row_len
     }
 
     // The size of the field.

@@ -5,7 +5,6 @@ ghost use Rattle.code.specs.Cutting.{Factors, RowAnswered};
 ghost use Rattle.code.specs.Rows.{row as row_of};
 
 use super::{MOST_PACKETS, Plan};
-use crate::differences::difference;
 use crate::fault::PlanFault;
 use field::Field;
 
@@ -18,8 +17,8 @@ impl Plan {
     {
         let mut factors = [0; MOST_PACKETS];
         let node = self.nodes[number];
-        for j in 0..self.data_count {
-            factors[j] = field.inverse(difference(field, node, self.nodes[j]));
+        for (j, data_node) in self.nodes[..self.counts.data_count].iter().enumerate() {
+            factors[j] = field.inverse(field.difference(node, *data_node));
         }
         factors
     }
@@ -31,12 +30,12 @@ impl Plan {
         ensures { row.new
             ≡ row_of (F.ops field.now) (view self.now) message.now number }
     {
-        if number < self.data_count {
-            let start = number * self.row_len;
-            row.copy_from_slice(&message[start..start + self.row_len]);
+        if number < self.counts.data_count {
+            let start = number * self.counts.row_len;
+            row.copy_from_slice(&message[start..start + self.counts.row_len]);
         } else {
             let factors = self.factors(field, number);
-            field.combine(&factors[0..self.data_count], message, row);
+            field.combine(&factors[..self.counts.data_count], message, row);
         }
     }
 
@@ -60,8 +59,8 @@ impl Plan {
         if number >= self.packet_count() {
             return Err(PlanFault::Number(number));
         }
-        if row.len() != self.row_len {
-            return Err(PlanFault::Count(self.row_len));
+        if row.len() != self.counts.row_len {
+            return Err(PlanFault::Count(self.counts.row_len));
         }
         self.write_row(field, message, number, row);
         Ok(())

@@ -12,6 +12,6 @@ impl Plan {
         ensures enough { AnyMPacketsSettleTheMessage }
         ensures fewer { FewerLeaveEveryOtherRowOpen }
     {
-        self.data_count <= count
+        self.counts.data_count <= count
     }
 }

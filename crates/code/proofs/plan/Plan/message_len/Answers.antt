@@ -7,5 +7,5 @@ returns c =
     let p = c.args.self.now in
     record {
       answers = refl;
-      bounds = (mul-le 1 1 p.data_count p.row_len p.some_data p.some_symbols, mul-le p.data_count p.row_len 64 128 p.few_data p.few_symbols);
+      bounds = (mul-le 1 1 p.counts.data_count p.counts.row_len p.some_data p.some_symbols, mul-le p.counts.data_count p.counts.row_len 64 128 p.few_data p.few_symbols);
     }

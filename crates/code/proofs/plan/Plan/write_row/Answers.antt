@@ -6,7 +6,7 @@ use Rattle.code.proofs.plan.Plan.write_row.Goals as goal
 pub slice_bounds-copy_from_slice-end : goal.slice_bounds-copy_from_slice-end
 slice_bounds-copy_from_slice-end g c =
     let p = c.args.self.now in
-    let h = row_within c.args.number p.data_count p.row_len c.if-number-self.true in
+    let h = row_within c.args.number p.counts.data_count p.counts.row_len c.if-number-self.true in
     search rules
 
 pub returns-then-number-self : goal.returns-then-number-self
