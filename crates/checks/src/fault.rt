@@ -1,6 +1,6 @@
 // A refusal as its reader sees it: the layer that refused, the number of the reason, and the place.
-ghost use Rattle.std.specs.Prelude.{◌≡◌, codes};
-ghost use Rattle.checks.specs.Faults.{layer_name};
+ghost use Rattle.std.specs.Prelude.{◌≡◌, Some};
+ghost use Rattle.checks.specs.Faults.{layer_name, fault_text};
 
 use std::fmt;
 
@@ -38,12 +38,19 @@ impl Layer {
     }
 }
 
+impl fmt::Display for Layer {
+    ghost output = { λ layer. Some (layer_name layer) };
+
+    fn fmt<W: fmt::Write>(&self, f: &mut fmt::Formatter<W>) -> fmt::Result {
+        f.write_str(self.name())
+    }
+}
+
 // Layer, number and place, parted by spaces.
 impl fmt::Display for Fault {
+    ghost output = { λ fault. Some (fault_text fault) };
+
     fn fmt<W: fmt::Write>(&self, f: &mut fmt::Formatter<W>) -> fmt::Result {
-        let layer = self.layer.name();
-        let number = self.number;
-        let place = self.place;
-        write!(f, "{layer} {number} {place}")
+        write!(f, "{} {} {}", self.layer, self.number, self.place)
     }
 }

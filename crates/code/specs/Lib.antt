@@ -7,3 +7,4 @@ pub mod Making
 pub mod Cutting
 pub mod Solving
 pub mod Settles
+pub mod Texts

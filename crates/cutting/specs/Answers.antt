@@ -33,7 +33,7 @@ Answers fault bytes (Err Memory) = Unit {0}
 
 -- a request without its reference
 abbrev pub request_view_of : Request → RequestView
-request_view_of a = record { choice = a.field; m = a.data_count; r = a.check_count; L = a.row_len; job = a.job.now }
+request_view_of a = record { choice = a.field; m = a.counts.data_count; r = a.counts.check_count; L = a.counts.row_len; job = a.job.now }
 
 -- the plan over the field o that is asked for
 abbrev pub request_plan : Ops → RequestView → PlanView

@@ -43,5 +43,5 @@ requested bs = record { choice = chosen (at bs 0); m = at bs 1; r = at bs 2; L =
 
 -- a request without its reference
 abbrev pub request_view : Result Request InputFault → Result RequestView InputFault
-request_view (Ok q) = Ok (record { choice = q.field; m = q.data_count; r = q.check_count; L = q.row_len; job = q.job.now })
+request_view (Ok q) = Ok (record { choice = q.field; m = q.counts.data_count; r = q.counts.check_count; L = q.counts.row_len; job = q.job.now })
 request_view (Err e) = Err e

@@ -10,7 +10,7 @@ ghost use Rattle.cutting.specs.Answers.{Answers, request_view_of, request_fault,
 ghost use Rattle.cutting.specs.declared.cut.CutError.TheVariants.{Refused, Memory};
 
 use crate::packets::{cut_all, lay_all};
-use crate::plans::make_plan;
+use crate::plans::counted_plan;
 use crate::request::{FieldChoice, InputFault, Request, read_request};
 use binary::{ByteField, NibbleField};
 use checks::fault::Fault;
@@ -79,8 +79,8 @@ fn cut_message<F: Field>(
     requires element { AllByRecursion (λ x. x < (view plan.now).q) message.now }
     ensures { IfOk result (λ v. v.items ≡ all_packets (F.ops field.now) (view plan.now) job message.now) }
 {
-    let mut room = [0; 8192];
-    let sheet = lay_all(plan, message, &mut room[0..plan.message_len()]);
+    let mut buffer = vec![in heap; 0u16; plan.message_len()]?;
+    let sheet = lay_all(plan, message, buffer.as_mut_slice());
     let packets = cut_all(heap, field, plan, job, &sheet);
     let _ = sheet.into_buffer();
     packets
@@ -90,20 +90,14 @@ fn cut_message<F: Field>(
 fn cut_request<F: Field>(heap: Global, field: &F, request: &Request) -> Result<Vec<u8>, CutError>
     ensures { Answers (request_fault (F.ops field.now) (request_view_of request.now)) (request_packets (F.ops field.now) (request_view_of request.now)) result }
 {
-    let plan = make_plan(
-        field,
-        request.data_count,
-        request.check_count,
-        request.row_len,
-    )?;
-    let mut room = [0; 8192];
-    let message = &mut room[0..plan.message_len()];
-    pack(&plan, request.job, message)?;
+    let plan = counted_plan(field, request.counts)?;
+    let mut message = vec![in heap; 0u16; plan.message_len()]?;
+    pack(&plan, request.job, message.as_mut_slice())?;
     let job = Job {
         number: JOB_NUMBER,
         length: request.job.len() as u16,
     };
-    Ok(cut_message(heap, field, &plan, job, message)?)
+    Ok(cut_message(heap, field, &plan, job, message.as_slice())?)
 }
 
 // The packets that an input of the cutter asks for, in order, nothing between.

@@ -3,7 +3,7 @@
 
 pub mod cut;
 mod packets;
-mod plans;
+pub mod plans;
 pub mod request;
 #[cfg(test)]
 mod tests;

@@ -12,6 +12,7 @@ use sheet::closed::ClosedSheet;
 use sheet::opened::OpenSheet;
 use std::alloc::{AllocError, Global};
 
+// The bytes of the longest packet: 128 symbols of two bytes behind a header of 20.
 pub const MOST_PACKET_BYTES: usize = 276;
 
 // Lays each row of the message on a sheet, and closes it.
@@ -21,10 +22,9 @@ pub(crate) fn lay_all<'a>(plan: &Plan, message: &[u16], buffer: &'a mut [u16]) -
     requires element { AllByRecursion (λ x. x < (view plan.now).q) message.now }
     ensures { closed_view result ≡ sheet_of (view plan.now) message.now }
 {
-    let len = plan.row_len();
     let mut sheet = OpenSheet::open(plan, buffer);
-    for j in 0..plan.data_count() {
-        let _ = sheet.lay(j, &message[j * len..j * len + len]);
+    for (number, row) in message.chunks(plan.row_len()).enumerate() {
+        sheet.lay(number, row).unwrap();
     }
     sheet.close()
 }
@@ -43,11 +43,9 @@ fn push_packet<F: Field>(
     requires within { number < (view plan.now).m + (view plan.now).r }
     ensures { OnOk result (out.new.items ≡ out.old.items ++ packet_of (F.ops field.now) (view plan.now) job (closed_view sheet.now).content number) }
 {
-    let mut room = [0u8; 276];
-    match sheet.cut(plan, field, job, number, &mut room) {
-        Ok(len) => out.extend_from_slice(&room[0..len]),
-        Err(_) => unreachable(),
-    }
+    let mut room = [0; MOST_PACKET_BYTES];
+    let len = sheet.cut(plan, field, job, number, &mut room).unwrap();
+    out.extend_from_slice(&room[..len])
 }
 
 // Cuts every packet of a sheet.

@@ -4,8 +4,7 @@ ghost use Rattle.checks.specs.Checks.{answered};
 ghost use Rattle.cutting.specs.Requests.{input_checked, field_check, request_view, requested, chosen, input_named};
 
 use checks::fault::{Fault, Layer};
-
-pub const REQUEST_LEN: usize = 4;
+use code::plan::Counts;
 
 // The field over which a job is cut.
 #[derive(Clone, Copy, PartialEq, Debug)]
@@ -28,9 +27,7 @@ pub enum InputFault {
 #[derive(Clone, Copy)]
 pub struct Request<'a> {
     pub field: FieldChoice,
-    pub data_count: u8,
-    pub check_count: u8,
-    pub row_len: u8,
+    pub counts: Counts,
     pub job: &'a [u8],
 }
 
@@ -51,11 +48,13 @@ impl From<InputFault> for Fault {
     }
 }
 
-impl FieldChoice {
-    // The field that a field byte stands for.
-    pub fn from_byte(byte: u8) -> Result<FieldChoice, InputFault>
-        ensures { result ≡ answered (field_check byte) (chosen byte) }
-    {
+// The field that a field byte stands for.
+impl TryFrom<u8> for FieldChoice {
+    type Error = InputFault;
+
+    ghost try_from_gives = { λ byte r. r ≡ answered (field_check byte) (chosen byte) };
+
+    fn try_from(byte: u8) -> Result<FieldChoice, InputFault> {
         match byte {
             0 => Ok(FieldChoice::Byte),
             1 => Ok(FieldChoice::Nibble),
@@ -69,15 +68,16 @@ impl FieldChoice {
 pub fn read_request(input: &[u8]) -> Result<Request<'_>, InputFault>
     ensures { request_view result ≡ answered (input_checked input.now) (requested input.now) }
 {
-    if input.len() < REQUEST_LEN {
+    let [field, data_count, check_count, row_len, job @ ..] = input else {
         return Err(InputFault::Length(input.len()));
-    }
-    let field = FieldChoice::from_byte(input[0])?;
+    };
     Ok(Request {
-        field,
-        data_count: input[1],
-        check_count: input[2],
-        row_len: input[3],
-        job: &input[REQUEST_LEN..],
+        field: FieldChoice::try_from(*field)?,
+        counts: Counts {
+            data_count: usize::from(*data_count),
+            check_count: usize::from(*check_count),
+            row_len: usize::from(*row_len),
+        },
+        job,
     })
 }

@@ -20,7 +20,7 @@ fn begins(bytes: &[u8]) -> bool
     if bytes.len() < len {
         return false;
     }
-    open(&bytes[0..len]).is_ok()
+    open(&bytes[..len]).is_ok()
 }
 
 // The first place where a packet stands.
@@ -28,10 +28,5 @@ pub fn first_packet(bytes: &[u8]) -> Option<usize>
     ensures answers { result ≡ lowest (stands_at bytes.now) (length bytes.now) }
     ensures within { IfSome result (λ i. i < length bytes.now) }
 {
-    for i in 0..bytes.len() {
-        if begins(&bytes[i..]) {
-            return Some(i);
-        }
-    }
-    None
+    (0..bytes.len()).find(|i| begins(&bytes[*i..]))
 }

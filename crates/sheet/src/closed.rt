@@ -9,11 +9,12 @@ ghost use Rattle.sheet.specs.Sheets.{closed_view, cutting, Cut};
 
 use crate::fault::SheetFault;
 use crate::opened::message_len;
-use code::plan::Plan;
+use code::plan::{MOST_SYMBOLS, Plan};
 use field::Field;
 use packet::{Job, packet_len, write};
 
 // A borrowed message buffer, with m, L and q of the plan that it was opened for.
+// Kept: a type of its own with the fields of the open sheet, so that the types refuse to lay on it and to cut an open one.
 pub struct ClosedSheet<'a> {
     pub(crate) buffer: &'a mut [u16],
     pub(crate) data_count: u16,
@@ -56,15 +57,10 @@ impl<'a> ClosedSheet<'a> {
         ensures { Cut (closed_view self.now) (view plan.now) (F.ops field.now) job number out.old out.new result }
     {
         self.check(plan, field.size(), number, out.len())?;
-        let mut room = [0u16; 128];
-        let row = &mut room[0..plan.row_len()];
-        if plan.packet_row(field, self.buffer, number, row).is_err() {
-            unreachable()
-        }
-        match write(plan, job, number as u16, row, out) {
-            Ok(len) => Ok(len),
-            Err(_) => unreachable(),
-        }
+        let mut room = [0; MOST_SYMBOLS];
+        let row = &mut room[..plan.row_len()];
+        plan.packet_row(field, self.buffer, number, row).unwrap();
+        Ok(write(plan, job, number as u16, row, out).unwrap())
     }
 
     // Takes the sheet apart: its buffer goes back to its owner.

@@ -9,7 +9,7 @@ use crate::fault::PlanFault;
 
 impl Counts {
     // The first that is out of its range.
-    pub(crate) fn check(self) -> Result<(), PlanFault>
+    pub fn check(self) -> Result<(), PlanFault>
         ensures { result ≡ answered (first (range_checks self.data_count self.check_count self.row_len)) tt }
     {
         if !(1..=MOST_PACKETS).contains(&self.data_count) {

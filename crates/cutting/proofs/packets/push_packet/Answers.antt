@@ -1,4 +1,4 @@
-use Rattle.std.proofs.Common.{◌≡◌, ◌-◌, take, vec_items, ap, ◌∙◌, arith}
+use Rattle.std.proofs.Common.{take, vec_items}
 use Rattle.code.specs.Plans.{view}
 use Rattle.sheet.specs.Sheets.{closed_view}
 use Rattle.cutting.specs.Cutting.{packet_of}
@@ -10,7 +10,7 @@ returns g c =
     let s = closed_view c.args.sheet.now in
     let p = view c.args.plan.now in
     let o = g.F.Field.ops c.args.field.now in
-    let all : c.in-Ok.len - 0 ≡ c.in-Ok.len = omega arith in
-    pushed_bytes c.extend_from_slice.result (vec_items c.args.out.now) (vec_items c.extend_from_slice.new.self) (take (c.in-Ok.len - 0) c.cut.new.out)
+    let len = c.unwrap-len.result in
+    pushed_bytes c.extend_from_slice.result (vec_items c.args.out.now) (vec_items c.extend_from_slice.new.self) (take len c.cut.new.out)
     (packet_of o p c.args.job s.content c.args.number) c.extend_from_slice.ensures.items
-    (ap (λ k. take k c.cut.new.out) all ∙ cut_bytes s p o c.args.job c.args.number _ c.cut.new.out c.in-Ok.len c.in-Ok.ensures)
+    (cut_bytes s p o c.args.job c.args.number _ c.cut.new.out len (rw c.unwrap-len.ensures at c.cut.ensures))
