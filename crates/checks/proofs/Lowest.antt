@@ -1,5 +1,5 @@
 -- The lowest place where a test passes, and how a search finds it. Assumes nothing.
-use Rattle.std.proofs.Common.{◌≡◌, ◌≢◌, ℕ, zero, suc, ◌+◌, ◌<◌, min, Bool, true, false, not, ◌⊎◌, List, length, Some, None, is_some, Option, sym, refl, ap, ◌∙◌, inl, inr, ⊎_elim, add-one, arith}
+use Rattle.std.proofs.Common.{◌≡◌, ◌≢◌, ℕ, zero, suc, ◌+◌, ◌<◌, ◌≤◌, min, Bool, true, false, not, ◌⊎◌, List, length, Some, None, is_some, Option, sym, refl, ap, ◌∙◌, inl, inr, ⊎_elim, add-one, arith}
 use Rattle.std.specs.List.{AllByRecursion, AllWithin, HoldsAt, zip}
 use Rattle.std.specs.Option.{MatchOption}
 use Rattle.std.proofs.ByRecursion.{All-from_get_or, All-get_or}
@@ -105,3 +105,10 @@ any_here p n k h passes None e = let fails = none_passes p n k e h in cc
 -- where one passes one is found
 pub lowest_any : (p : ℕ → Bool) (n k : ℕ) → k < n → p k ≡ true → is_some (lowest p n) ≡ true
 lowest_any p n k h passes = any_here p n k h passes (lowest p n) refl
+
+-- and of a search through the places themselves
+pub lowest_range : (p : ℕ → Bool) (n : ℕ) (r : Option ℕ)
+    → MatchOption r ((k : ℕ) → 0 ≤ k → k < n → p k ≡ false) (λ i. (0 ≤ i) × (i < n) × (p i ≡ true) × ((k : ℕ) → 0 ≤ k → k < i → p k ≡ false))
+    → r ≡ lowest p n
+lowest_range p n None fails = sym (lowest_none p n (λ k h. fails k (omega arith) h))
+lowest_range p n (Some i) found = sym (lowest_found p i n (lowest_none p i (λ k h. found.3 k (omega arith) h)) found.2 found.1)

@@ -1,11 +1,10 @@
 // The account of what was done: a line for each packet and each call.
 use crate::JOB;
-use crate::bridge::{Bridge, JOB_NUMBER, PACKET_LEN, STEPS, Step};
+use crate::bridge::{Bridge, JOB_NUMBER, PACKET_LEN, STEPS, Step, job_numbered};
 use binary::ByteField;
 use checks::fault::Fault;
 use code::plan::Plan;
 use job::unpack;
-use packet::Job;
 use receiver::fault::ReceiverFault;
 use receiver::run::Done;
 use sheet::closed::ClosedSheet;
@@ -24,9 +23,7 @@ fn reason(fault: ReceiverFault) -> &'static str {
 }
 
 fn print_refusal(rt: &HostRuntime, fault: ReceiverFault) -> io::Result<()> {
-    let why = reason(fault);
-    let fault = Fault::from(fault);
-    println!(rt; "refused {fault}: {why}")
+    println!(rt; "refused {}: {}", Fault::from(fault), reason(fault))
 }
 
 // What was sent, and what the bridge did with it.
@@ -65,10 +62,7 @@ fn print_read(rt: &HostRuntime, plan: &Plan, message: &[u16]) -> io::Result<()> 
     match unpack(plan, message, JOB.len(), &mut job) {
         Ok(()) if &job == JOB => println!(rt; "the job came back, all {} bytes of it", JOB.len()),
         Ok(()) => println!(rt; "another job came back"),
-        Err(fault) => {
-            let fault = Fault::from(fault);
-            println!(rt; "refused {fault}")
-        }
+        Err(fault) => println!(rt; "refused {}", Fault::from(fault)),
     }
 }
 
@@ -80,10 +74,7 @@ fn print_rebuilt(
     number: usize,
     packet: &[u8],
 ) -> io::Result<()> {
-    let job = Job {
-        number: JOB_NUMBER,
-        length: JOB.len() as u16,
-    };
+    let job = job_numbered(JOB_NUMBER);
     let mut cut = [0; PACKET_LEN];
     if sheet
         .cut(plan, &ByteField {}, job, number, &mut cut)
@@ -130,15 +121,14 @@ pub(crate) fn print_all(
     sheet: &ClosedSheet,
     done: &[Done],
 ) -> io::Result<()> {
-    let mut next = 0;
+    let mut answers = done.iter();
     for step in STEPS {
         print_step(rt, step)?;
         if let Step::Packet(_, _, Bridge::Loses) = step {
             continue;
         }
-        if next < done.len() {
-            print_answer(rt, plan, sheet, step, &done[next])?;
-            next += 1;
+        if let Some(answer) = answers.next() {
+            print_answer(rt, plan, sheet, step, answer)?;
         }
     }
     Ok(())

@@ -1,4 +1,5 @@
 // The bridge: what is sent over it, what becomes of that by a stated pattern, and what is called on the other side.
+use crate::JOB;
 use binary::ByteField;
 use code::plan::Plan;
 use packet::Job;
@@ -49,6 +50,14 @@ pub(crate) const STEPS: [Step; 15] = [
     Step::Rebuild(7),
 ];
 
+// A job of the panel's length.
+pub(crate) fn job_numbered(number: u16) -> Job {
+    Job {
+        number,
+        length: JOB.len() as u16,
+    }
+}
+
 // Adds what comes over the bridge of one packet.
 fn carry_packet(
     plan: &Plan,
@@ -74,17 +83,11 @@ fn carry_packet(
 }
 
 // The packets that arrive, one behind the other.
-pub(crate) fn carry(
-    heap: Global,
-    plan: &Plan,
-    sheet: &ClosedSheet,
-    length: u16,
-) -> Result<Vec<u8>, AllocError> {
+pub(crate) fn carry(heap: Global, plan: &Plan, sheet: &ClosedSheet) -> Result<Vec<u8>, AllocError> {
     let mut arrived = Vec::new(heap);
     for step in STEPS {
         if let Step::Packet(n, number, bridge) = step {
-            let job = Job { number, length };
-            carry_packet(plan, sheet, job, n, bridge, &mut arrived)?;
+            carry_packet(plan, sheet, job_numbered(number), n, bridge, &mut arrived)?;
         }
     }
     Ok(arrived)
@@ -98,14 +101,13 @@ pub(crate) fn calls_for<'a>(
     packet: &'a [u8],
 ) -> Result<Vec<Call<'a>>, AllocError> {
     let mut calls = Vec::new(heap);
-    let mut rest = arrived;
+    let mut packets = arrived.chunks(PACKET_LEN);
     for step in STEPS {
         match step {
             Step::Packet(_, _, Bridge::Loses) => {}
             Step::Packet(_, _, _) => {
-                if rest.len() >= PACKET_LEN {
-                    calls.push(Call::Offer(&rest[0..PACKET_LEN]))?;
-                    rest = &rest[PACKET_LEN..];
+                if let Some(packet) = packets.next() {
+                    calls.push(Call::Offer(packet))?;
                 }
             }
             Step::Read => calls.push(Call::Read(message))?,

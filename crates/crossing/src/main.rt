@@ -7,11 +7,10 @@ mod bridge;
 
 use account::print_all;
 use binary::ByteField;
-use bridge::{JOB_NUMBER, PACKET_LEN, calls_for, carry};
+use bridge::{JOB_NUMBER, PACKET_LEN, calls_for, carry, job_numbered};
 use checks::fault::Fault;
-use code::plan::Plan;
+use code::plan::{Counts, Plan};
 use job::pack;
-use packet::Job;
 use receiver::run::run;
 use sheet::closed::ClosedSheet;
 use sheet::opened::OpenSheet;
@@ -19,21 +18,21 @@ use std::io;
 
 const JOB: &[u8; 30] = b"R1 10k 12.50 30.00;C3 100n 4.2";
 
+const COUNTS: Counts = Counts {
+    data_count: 4,
+    check_count: 3,
+    row_len: 8,
+};
+
 const MESSAGE_LEN: usize = 32;
 
-fn print_refusal(rt: &HostRuntime, fault: Fault) -> io::Result<()> {
-    println!(rt; "refused {fault}")
+fn print_refusal(rt: &HostRuntime, fault: impl Into<Fault>) -> io::Result<()> {
+    println!(rt; "refused {}", fault.into())
 }
 
 fn print_plan(rt: &HostRuntime, plan: &Plan) -> io::Result<()> {
-    let m = plan.data_count();
-    let r = plan.check_count();
-    let len = plan.row_len();
-    let q = plan.size();
     println!(rt; "job       number {JOB_NUMBER}, {} bytes", JOB.len())?;
-    println!(rt;
-        "plan      {m} data packets and {r} check packets of {len} symbols, over the field of {q}"
-    )
+    println!(rt; "plan      {plan}")
 }
 
 fn lay<'a>(plan: &Plan, message: &[u16], buffer: &'a mut [u16]) -> ClosedSheet<'a> {
@@ -45,11 +44,8 @@ fn lay<'a>(plan: &Plan, message: &[u16], buffer: &'a mut [u16]) -> ClosedSheet<'
 }
 
 fn cross(rt: &HostRuntime, plan: &Plan, sheet: &ClosedSheet) -> io::Result<()> {
-    let job = Job {
-        number: JOB_NUMBER,
-        length: JOB.len() as u16,
-    };
-    let arrived = carry(rt.alloc(), plan, sheet, job.length)?;
+    let job = job_numbered(JOB_NUMBER);
+    let arrived = carry(rt.alloc(), plan, sheet)?;
     let message = [0; MESSAGE_LEN];
     let packet = [0; PACKET_LEN];
     let calls = calls_for(rt.alloc(), arrived.as_slice(), &message, &packet)?;
@@ -59,13 +55,13 @@ fn cross(rt: &HostRuntime, plan: &Plan, sheet: &ClosedSheet) -> io::Result<()> {
 
 fn main(rt: HostRuntime) -> io::Result<()> {
     let mut plan = Plan::new();
-    if let Err(fault) = plan.make(&ByteField {}, 4, 3, 8, &[0, 1, 2, 3], &[4, 5, 6]) {
-        return print_refusal(&rt, Fault::from(fault));
+    if let Err(fault) = plan.make(&ByteField {}, COUNTS, &[0, 1, 2, 3], &[4, 5, 6]) {
+        return print_refusal(&rt, fault);
     }
     print_plan(&rt, &plan)?;
     let mut message = [0; MESSAGE_LEN];
     if let Err(fault) = pack(&plan, JOB, &mut message) {
-        return print_refusal(&rt, Fault::from(fault));
+        return print_refusal(&rt, fault);
     }
     let mut buffer = [0; MESSAGE_LEN];
     let sheet = lay(&plan, &message, &mut buffer);

@@ -5,7 +5,6 @@
 mod panel;
 
 use binary::{ByteField, NibbleField};
-use checks::fault::Fault;
 use code::plan::Plan;
 use cutting::request::FieldChoice;
 use field::Field;
@@ -17,7 +16,6 @@ use packet::Job;
 use panel::{Tally, print_heading, print_no_job, print_refusal, print_tally};
 use prime::PrimeField;
 use receiver::receiver::Receiver;
-use receiver::shelf::SHELF_LEN;
 use std::io;
 use std::io::{Read, Write};
 
@@ -50,15 +48,12 @@ fn write_job<F: Field>(
     receiver: &Receiver,
     len: usize,
 ) -> io::Result<()> {
-    let mut room = [0u8; SHELF_LEN];
-    if let Err(fault) = read_job(field, plan, receiver, len, &mut room) {
-        return print_no_job(rt, Fault::from(fault));
+    let mut job = vec![in rt.alloc(); 0; len]?;
+    if let Err(fault) = read_job(field, plan, receiver, len, job.as_mut_slice()) {
+        return print_no_job(rt, fault);
     }
     eprintln!(rt; "joined    {len} bytes")?;
-    match room.get(0..len) {
-        Some(job) => rt.stdout().write_all(job),
-        None => Ok(()),
-    }
+    rt.stdout().write_all(job.as_slice())
 }
 
 fn receive<F: Field>(
@@ -82,7 +77,7 @@ fn join_over<F: Field>(
 ) -> io::Result<()> {
     match heading.plan(field) {
         Ok(plan) => receive(rt, field, &plan, heading.job, packets),
-        Err(fault) => print_no_job(rt, Fault::from(fault)),
+        Err(fault) => print_no_job(rt, fault),
     }
 }
 
@@ -94,7 +89,7 @@ fn join(rt: &HostRuntime, packets: &[u8]) -> io::Result<()> {
         Ok(FieldChoice::Byte) => join_over(rt, &ByteField {}, heading, packets),
         Ok(FieldChoice::Nibble) => join_over(rt, &NibbleField {}, heading, packets),
         Ok(FieldChoice::Prime) => join_over(rt, &PrimeField {}, heading, packets),
-        Err(fault) => print_no_job(rt, Fault::from(fault)),
+        Err(fault) => print_no_job(rt, fault),
     }
 }
 
@@ -107,6 +102,6 @@ fn main(rt: HostRuntime) -> io::Result<()> {
             eprintln!(rt; "passed    {passed} bytes in front of the first packet")?;
             join(&rt, &bytes[passed..])
         }
-        None => print_no_job(&rt, Fault::from(JoinFault::NoPacket(bytes.len()))),
+        None => print_no_job(&rt, JoinFault::NoPacket(bytes.len())),
     }
 }

@@ -13,21 +13,16 @@ pub(crate) struct Tally {
 }
 
 // Why no job comes out.
-pub(crate) fn print_no_job(rt: &HostRuntime, fault: Fault) -> io::Result<()> {
-    eprintln!(rt; "no job    {fault}")
+pub(crate) fn print_no_job(rt: &HostRuntime, fault: impl Into<Fault>) -> io::Result<()> {
+    eprintln!(rt; "no job    {}", fault.into())
 }
 
 pub(crate) fn print_heading(rt: &HostRuntime, heading: Heading) -> io::Result<()> {
-    let m = heading.data_count;
-    let r = heading.check_count;
-    let len = heading.row_len;
-    let q = heading.size;
-    let number = heading.job.number;
-    let bytes = heading.job.length;
+    eprintln!(rt; "plan      {heading}")?;
     eprintln!(rt;
-        "plan      {m} data packets and {r} check packets of {len} symbols, over the field of {q}"
-    )?;
-    eprintln!(rt; "job       number {number}, {bytes} bytes")
+        "job       number {}, {} bytes",
+        heading.job.number, heading.job.length
+    )
 }
 
 // `place` counts the packets of the input from 0.
@@ -36,8 +31,10 @@ pub(crate) fn print_refusal(
     place: usize,
     fault: ReceiverFault,
 ) -> io::Result<()> {
-    let fault = Fault::from(fault);
-    eprintln!(rt; "refused   {fault}, packet {place} of the input")
+    eprintln!(rt;
+        "refused   {}, packet {place} of the input",
+        Fault::from(fault)
+    )
 }
 
 // Which data packet is missing, and whether others make up for it.
@@ -57,16 +54,13 @@ pub(crate) fn print_tally(
     tally: Tally,
     missing: Option<u16>,
 ) -> io::Result<()> {
-    let accepted = tally.accepted;
-    let refused = tally.refused;
-    let is_settled = plan.settled_by(accepted);
-    let wanted = plan.data_count();
-    eprintln!(rt; "accepted  {accepted} packets")?;
-    eprintln!(rt; "refused   {refused} packets")?;
+    let is_settled = plan.settled_by(tally.accepted);
+    eprintln!(rt; "accepted  {} packets", tally.accepted)?;
+    eprintln!(rt; "refused   {} packets", tally.refused)?;
     print_missing(rt, missing, is_settled)?;
     if is_settled {
         eprintln!(rt; "settled   yes")
     } else {
-        eprintln!(rt; "settled   no, {wanted} packets are wanted")
+        eprintln!(rt; "settled   no, {} packets are wanted", plan.data_count())
     }
 }

@@ -1,5 +1,7 @@
 -- What a header tells of its job. Assumes nothing.
-use Rattle.std.specs.Prelude.{ℕ, ◌+◌, cond, List, Ok, Err, Result, ◌==◌}
+use Rattle.std.specs.Prelude.{ℕ, ◌+◌, cond, List, ◌++◌, Ok, Err, Result, ◌==◌, codes, decimal}
+use Rattle.code.specs.Texts.{counts_text}
+use Rattle.code.specs.declared.plan.Counts.{Counts}
 use Rattle.binary.specs.Binary.{byte, nibble}
 use Rattle.code.specs.declared.fault.PlanFault.{PlanFault}
 use Rattle.code.specs.declared.plan.Plan.{Plan}
@@ -30,6 +32,14 @@ field_sized q =
     (cond (q == byte.size) (Ok Byte)
     (cond (q == prime.size) (Ok Prime)
     (Err (NoField q_at))))
+
+-- its counts
+abbrev pub counts_of : Heading → Counts
+counts_of h = record { data_count = h.data_count; check_count = h.check_count; row_len = h.row_len }
+
+-- a heading in output
+abbrev pub heading_text : Heading → List ℕ
+heading_text h = counts_text h.data_count h.check_count h.row_len ++ (codes ", over the field of " ++ decimal h.size)
 
 -- the cutter's plan of the counts of h over a field of q, or the first fault of it
 abbrev pub Asked : ℕ → Heading → Result Plan PlanFault → Type 0

@@ -1,7 +1,7 @@
 // Where the first packet stands, and how long it is.
-ghost use Rattle.std.specs.Prelude.{◌≡◌, ◌<◌, length, IfSome};
+ghost use Rattle.std.specs.Prelude.{◌≡◌, ◌<◌, ◌≤◌, length, IfSome};
 ghost use Rattle.checks.specs.Checks.{lowest};
-ghost use Rattle.joining.specs.Finding.{told_length, begins as begins_so, stands_at};
+ghost use Rattle.joining.specs.Finding.{told_length, begins as begins_so, stands_at as stands_at_so};
 
 use packet::{HEADER_LEN, ROW_COUNT_AT, open, word_at};
 
@@ -23,10 +23,18 @@ fn begins(bytes: &[u8]) -> bool
     open(&bytes[..len]).is_ok()
 }
 
+// Whether a packet stands at that place.
+fn stands_at(bytes: &[u8], place: usize) -> bool
+    requires within { place ≤ length bytes.now }
+    ensures { result ≡ stands_at_so bytes.now place }
+{
+    begins(&bytes[place..])
+}
+
 // The first place where a packet stands.
 pub fn first_packet(bytes: &[u8]) -> Option<usize>
-    ensures answers { result ≡ lowest (stands_at bytes.now) (length bytes.now) }
+    ensures answers { result ≡ lowest (stands_at_so bytes.now) (length bytes.now) }
     ensures within { IfSome result (λ i. i < length bytes.now) }
 {
-    (0..bytes.len()).find(|i| begins(&bytes[*i..]))
+    (0..bytes.len()).find(|place| stands_at(bytes, *place))
 }

@@ -1,15 +1,17 @@
 // What a packet's header tells of its job, and the field that it asks for.
-ghost use Rattle.std.specs.Prelude.{◌≡◌};
-ghost use Rattle.joining.specs.Headings.{told, field_sized};
+ghost use Rattle.std.specs.Prelude.{◌≡◌, Some};
+ghost use Rattle.joining.specs.Headings.{told, counts_of, field_sized};
 
 use crate::fault::JoinFault;
 use binary::{ByteField, NibbleField};
+use code::plan::Counts;
 use cutting::request::FieldChoice;
 use field::Field;
 use packet::{
     CHECK_COUNT_AT, DATA_COUNT_AT, JOB_LENGTH_AT, JOB_NUMBER_AT, Job, ROW_LEN_AT, SIZE_AT, word_at,
 };
 use prime::PrimeField;
+use std::fmt;
 
 // The numbers of a header that are the same in all packets of a job.
 #[derive(Clone, Copy)]
@@ -24,6 +26,7 @@ pub struct Heading {
 
 impl Heading {
     // The heading of the packet that stands in front. A byte past the end counts as 0.
+    // Kept: a function and no `From`, since bytes without a whole header have a heading too.
     pub fn of(bytes: &[u8]) -> Heading
         ensures { result ≡ told bytes.now }
     {
@@ -36,6 +39,16 @@ impl Heading {
                 number: word_at(bytes, JOB_NUMBER_AT),
                 length: word_at(bytes, JOB_LENGTH_AT),
             },
+        }
+    }
+
+    pub(crate) fn counts(self) -> Counts
+        ensures { result ≡ counts_of self }
+    {
+        Counts {
+            data_count: usize::from(self.data_count),
+            check_count: usize::from(self.check_count),
+            row_len: usize::from(self.row_len),
         }
     }
 
@@ -52,5 +65,16 @@ impl Heading {
         } else {
             Err(JoinFault::NoField(SIZE_AT))
         }
+    }
+}
+
+// The counts, and the size of the field.
+impl fmt::Display for Heading {
+    ghost use Rattle.joining.specs.Headings.{heading_text};
+
+    ghost output = { λ h. Some (heading_text h) };
+
+    fn fmt<W: fmt::Write>(&self, f: &mut fmt::Formatter<W>) -> fmt::Result {
+        write!(f, "{}, over the field of {}", self.counts(), self.size)
     }
 }

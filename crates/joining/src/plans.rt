@@ -3,7 +3,7 @@ ghost use Rattle.joining.specs.Headings.{Asked};
 
 use crate::heading::Heading;
 use code::fault::PlanFault;
-use code::plan::{Counts, Plan};
+use code::plan::Plan;
 use cutting::plans::counted_plan;
 use field::Field;
 
@@ -12,11 +12,6 @@ impl Heading {
     pub fn plan<F: Field>(self, field: &F) -> Result<Plan, PlanFault>
         ensures { Asked (F.ops field.now).size self result }
     {
-        let counts = Counts {
-            data_count: usize::from(self.data_count),
-            check_count: usize::from(self.check_count),
-            row_len: usize::from(self.row_len),
-        };
-        counted_plan(field, counts)
+        counted_plan(field, self.counts())
     }
 }

@@ -1,6 +1,4 @@
-use Rattle.std.proofs.Common.{◌≡◌, ◌*◌, rules, length, drop, zero-mul, refl, Ok, sym, ap, ◌∙◌, ap₂, subst, arith}
-use Rattle.std.proofs.lemmas.List.{length-drop}
-use Rattle.std.specs.Result.{IsOk}
+use Rattle.std.proofs.Common.{◌≡◌, ◌*◌, rules, drop, zero-mul, refl, Ok, sym, ap, ◌∙◌, ap₂, arith}
 use Rattle.checks.specs.Checks.{answered}
 use Rattle.code.specs.Plans.{view}
 use Rattle.sheet.specs.Sheets.{open_view, laying, laid_on}
