@@ -13,7 +13,8 @@ pub record Basis (m d : ℕ) : Type 0 where
   pub most : T (nat_lt (2 ^ d) 65537)
   pub element : T (all d (λ i. all d (λ j. ltb (reduced m d (2 ^ i) (2 ^ j)) (2 ^ d))))
   pub comm : T (all d (λ i. all d (λ j. nat_eq (reduced m d (2 ^ i) (2 ^ j)) (reduced m d (2 ^ j) (2 ^ i)))))
-  pub assoc : T (all d (λ i. all d (λ j. all d (λ k. nat_eq (reduced m d (reduced m d (2 ^ i) (2 ^ j)) (2 ^ k)) (reduced m d (2 ^ i) (reduced m d (2 ^ j) (2 ^ k)))))))
+  pub assoc : T (all d (λ i. all d (λ j. all d (λ k.
+      nat_eq (reduced m d (reduced m d (2 ^ i) (2 ^ j)) (2 ^ k)) (reduced m d (2 ^ i) (reduced m d (2 ^ j) (2 ^ k)))))))
   pub one : T (all d (λ i. nat_eq (reduced m d (2 ^ i) 1) (2 ^ i)))
 
 module _ {m d : ℕ} (t : Basis m d) where
@@ -37,14 +38,17 @@ module _ {m d : ℕ} (t : Basis m d) where
   reduced_assoc a b e ha hb he =
       span (λ x. reduced m d (reduced m d x b) e ≡ reduced m d x (reduced m d b e))
       (ap (λ n. reduced m d n e) (zero_left m d b) ∙ zero_left m d e ∙ sym (zero_left m d (reduced m d b e)))
-      (λ u v p q. ap (λ n. reduced m d n e) (sum_left m d u v b) ∙ sum_left m d _ _ e ∙ ap₂ bit_xor p q ∙ sym (sum_left m d u v (reduced m d b e))) d
+      (λ u v p q. ap (λ n. reduced m d n e) (sum_left m d u v b) ∙ sum_left m d _ _ e ∙ ap₂ bit_xor p q
+      ∙ sym (sum_left m d u v (reduced m d b e))) d
       (λ i hi. span (λ y. reduced m d (reduced m d (2 ^ i) y) e ≡ reduced m d (2 ^ i) (reduced m d y e))
-      (ap (λ n. reduced m d n e) (zero_right m d (2 ^ i)) ∙ zero_left m d e ∙ sym (ap (reduced m d (2 ^ i)) (zero_left m d e) ∙ zero_right m d (2 ^ i)))
+      (ap (λ n. reduced m d n e) (zero_right m d (2 ^ i)) ∙ zero_left m d e
+      ∙ sym (ap (reduced m d (2 ^ i)) (zero_left m d e) ∙ zero_right m d (2 ^ i)))
       (λ u v p q. ap (λ n. reduced m d n e) (sum_right m d (2 ^ i) u v) ∙ sum_left m d _ _ e ∙ ap₂ bit_xor p q
       ∙ sym (ap (reduced m d (2 ^ i)) (sum_left m d u v e) ∙ sum_right m d (2 ^ i) _ _)) d
       (λ j hj. span (λ z. reduced m d (reduced m d (2 ^ i) (2 ^ j)) z ≡ reduced m d (2 ^ i) (reduced m d (2 ^ j) z))
       (zero_right m d _ ∙ sym (ap (reduced m d (2 ^ i)) (zero_right m d (2 ^ j)) ∙ zero_right m d (2 ^ i)))
-      (λ u v p q. sum_right m d _ u v ∙ ap₂ bit_xor p q ∙ sym (ap (reduced m d (2 ^ i)) (sum_right m d (2 ^ j) u v) ∙ sum_right m d (2 ^ i) _ _)) d
+      (λ u v p q. sum_right m d _ u v ∙ ap₂ bit_xor p q
+      ∙ sym (ap (reduced m d (2 ^ i)) (sum_right m d (2 ^ j) u v) ∙ sum_right m d (2 ^ i) _ _)) d
       (λ k hk. eqb→eq _ _ (at d _ (at d _ (at d _ t.assoc i hi) j hj) k hk)) e he) b hb) a ha
 
   pub reduced-one : (a : ℕ) → a < 2 ^ d → reduced m d a 1 ≡ a

@@ -1,9 +1,8 @@
 -- The tests of the byte and the nibble field, which antt computes. Assumes nothing.
 use Rattle.std.specs.Prelude.{refl}
 use Rattle.binary.specs.Binary.{byte_polynomial, nibble_polynomial, reduced, poly_product, rest}
-use Rattle.binary.specs.Tables.{power_table, exponent_table}
 use Rattle.binary.specs.Basis.{Basis}
-use Rattle.binary.specs.Lookup.{Tested}
+use Rattle.binary.specs.Tested.{Tested}
 
 byte_basis : Basis byte_polynomial 8
 unfolding reduced poly_product rest
@@ -13,14 +12,14 @@ nibble_basis : Basis nibble_polynomial 4
 unfolding reduced poly_product rest
 nibble_basis = record { least = tt; most = tt; element = tt; comm = tt; assoc = tt; one = tt }
 
-pub byte_tested : Tested byte_polynomial 8 255 (power_table byte_polynomial 8) (exponent_table byte_polynomial 8)
+pub byte_tested : Tested byte_polynomial 8
 unfolding reduced poly_product rest
 byte_tested = record {
   basis = byte_basis;
-  size = refl;
   all_powers = refl;
   all_exponents = refl;
   first = tt;
+  power = tt;
   next = tt;
   round = tt;
   exponent = tt;
@@ -28,14 +27,14 @@ byte_tested = record {
   back = tt;
 }
 
-pub nibble_tested : Tested nibble_polynomial 4 15 (power_table nibble_polynomial 4) (exponent_table nibble_polynomial 4)
+pub nibble_tested : Tested nibble_polynomial 4
 unfolding reduced poly_product rest
 nibble_tested = record {
   basis = nibble_basis;
-  size = refl;
   all_powers = refl;
   all_exponents = refl;
   first = tt;
+  power = tt;
   next = tt;
   round = tt;
   exponent = tt;

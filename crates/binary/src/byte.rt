@@ -1,24 +1,13 @@
 // The byte field.
-ghost use Rattle.std.specs.Prelude.{◌≡◌};
-ghost use Rattle.field.specs.Field.{Steps};
-ghost use Rattle.binary.specs.Binary.{byte, byte_polynomial};
-ghost use Rattle.binary.specs.Tables.{power_table, exponent_table};
-ghost use Rattle.binary.specs.Lookup;
 ghost use Rattle.binary.specs.Instances.{byte_tested};
 
-use crate::tables::{Tables, element};
-use field::{Field, SteppedField};
-
-const SIZE: u16 = 256;
+use crate::binary_field::BinaryField;
+use crate::tables::Tables;
 
 const DEGREE: u16 = 8;
 
 // x^8 + x^4 + x^3 + x^2 + 1.
 const POLYNOMIAL: u16 = 0b1_0001_1101;
-
-const STEP: u16 = 2;
-
-const PERIOD: u32 = 255;
 
 // x to the power 0, to the power 1, and so on: at 255 they begin again.
 const POWERS: &[u8; 510] = b"\
@@ -50,67 +39,17 @@ const EXPONENTS: &[u8; 256] = b"\
     \x1f\x2d\x43\xd8\xb7\x7b\xa4\x76\xc4\x17\x49\xec\x7f\x0c\x6f\xf6\x6c\xa1\x3b\x52\x29\x9d\x55\xaa\xfb\x60\x86\xb1\xbb\xcc\x3e\x5a\
     \xcb\x59\x5f\xb0\x9c\xa9\xa0\x51\x0b\xf5\x16\xeb\x7a\x75\x2c\xd7\x4f\xae\xd5\xe9\xe6\xe7\xad\xe8\x74\xd6\xf4\xea\xa8\x50\x58\xaf";
 
-fn powers() -> &'static [u8; 510]
-    ensures { result.now ≡ power_table byte_polynomial 8 }
-{
-    POWERS
-}
-
-fn exponents() -> &'static [u8; 256]
-    ensures { result.now ≡ exponent_table byte_polynomial 8 }
-{
-    EXPONENTS
-}
-
-fn tables() -> Tables<POLYNOMIAL, DEGREE> {
-    Tables {
-        powers: powers(),
-        exponents: exponents(),
-    }
-}
-
 // The field of 256 elements, whose products are reduced by x^8 + x^4 + x^3 + x^2 + 1.
-#[derive(Clone, Copy)]
-pub struct ByteField {}
+pub type ByteField = BinaryField<POLYNOMIAL, DEGREE>;
 
-impl Field for ByteField {
-    ghost ops = { λ _. byte };
+impl Tables<POLYNOMIAL, DEGREE> for ByteField {
+    ghost tested = { byte_tested };
 
-    ghost lawful = { λ f. Lookup.lawful byte_tested };
-
-    fn size(&self) -> u32 {
-        u32::from(SIZE)
+    fn powers() -> &'static [u8] {
+        POWERS
     }
 
-    fn sum(&self, a: u16, b: u16) -> u16 {
-        element(SIZE, a) ^ element(SIZE, b)
-    }
-
-    fn negative(&self, a: u16) -> u16 {
-        element(SIZE, a)
-    }
-
-    fn product(&self, a: u16, b: u16) -> u16 {
-        tables().product(element(SIZE, a), element(SIZE, b))
-    }
-
-    fn inverse(&self, a: u16) -> u16 {
-        tables().inverse(element(SIZE, a))
-    }
-}
-
-// The powers of x from 0 to 254 are all different. A call does nothing but tell the proof so.
-fn steps()
-    ensures { Steps byte 2 255 }
-{}
-
-impl SteppedField for ByteField {
-    ghost first = { λ _. 2 };
-
-    ghost period = { λ _. 255 };
-
-    fn step(&self) -> (u16, u32) {
-        steps();
-        (STEP, PERIOD)
+    fn exponents() -> &'static [u8] {
+        EXPONENTS
     }
 }

@@ -1,47 +1,18 @@
-// Products and inverses by tables.
-ghost use Rattle.std.specs.Prelude.{◌≡◌, ◌^◌, ◌<◌, if◌then◌else◌, nat_lt};
-ghost use Rattle.binary.specs.Binary.{binary};
-ghost use Rattle.binary.specs.Tables.{Within, Products, Inverses};
+// What one field of polynomials brings: its tables, and that they are tested.
+ghost use Rattle.std.specs.Prelude.{◌≡◌};
+ghost use Rattle.binary.specs.Tables.{power_table, exponent_table};
+ghost use Rattle.binary.specs.Tested.{Tested};
 
-// A number of `size` or more counts as 0.
-pub(crate) fn element(size: u16, a: u16) -> u16
-    ensures { result ≡ (if nat_lt a size then a else 0) }
-{
-    if a < size { a } else { 0 }
-}
+// The tables of the field of 2 ^ DEGREE elements, whose products are reduced by POLYNOMIAL.
+pub trait Tables<const POLYNOMIAL: u16, const DEGREE: u16> {
+    // Read by the proofs alone.
+    ghost tested: { Tested POLYNOMIAL DEGREE };
 
-// The powers of x, twice all of them, and the exponent of each element but 0, in a field of 2 ^ DEGREE elements.
-#[derive(Clone, Copy)]
-pub(crate) struct Tables<const POLYNOMIAL: u16, const DEGREE: u16> {
-    pub(crate) powers: &'static [u8],
-    pub(crate) exponents: &'static [u8],
-    ghost within: { Within DEGREE powers.now exponents.now },
-    ghost products: { Products POLYNOMIAL DEGREE powers.now exponents.now },
-    ghost inverses: { Inverses POLYNOMIAL DEGREE powers.now exponents.now },
-}
+    // x to the power 0, to the power 1, and so on, through all powers twice.
+    fn powers() -> &'static [u8]
+        ensures { result.now ≡ power_table POLYNOMIAL DEGREE };
 
-impl<const POLYNOMIAL: u16, const DEGREE: u16> Tables<POLYNOMIAL, DEGREE> {
-    pub(crate) fn product(&self, a: u16, b: u16) -> u16
-        requires element { (a < 2 ^ DEGREE) × (b < 2 ^ DEGREE) }
-        ensures { result ≡ (binary POLYNOMIAL DEGREE).product a b }
-    {
-        if a == 0 || b == 0 {
-            0
-        } else {
-            let first = self.exponents[a as usize] as usize;
-            let second = self.exponents[b as usize] as usize;
-            self.powers[first + second] as u16
-        }
-    }
-
-    pub(crate) fn inverse(&self, a: u16) -> u16
-        requires element { a < 2 ^ DEGREE }
-        ensures { result ≡ (binary POLYNOMIAL DEGREE).inverse a }
-    {
-        if a == 0 {
-            0
-        } else {
-            self.powers[self.exponents.len() - 1 - self.exponents[a as usize] as usize] as u16
-        }
-    }
+    // The exponent of 1, of 2, and so on; what stands for 0 is not used.
+    fn exponents() -> &'static [u8]
+        ensures { result.now ≡ exponent_table POLYNOMIAL DEGREE };
 }
