@@ -1,20 +1,13 @@
 -- The laws of the remainders by p, of which each but 0 has an inverse. Assumes nothing.
-use Rattle.std.specs.Prelude.{◌≡◌, ℕ, zero, suc, ◌+◌, ◌-◌, ◌*◌, ◌/◌, ◌%◌, ◌<◌, ◌≤◌, T, List, ◌==◌, ◌≢◌, nat_lt, refl}
-use Rattle.std.proofs.Common.{sym, ap, ◌∙◌, add_assoc, add_comm, add-zero, mul_comm, mul_assoc, mul-one, mul-add, add-mul, zero-mul, mod-lt, mod-eq_of_lt, arith, eqb→eq, ltb→lt}
-use Rattle.std.proofs.Math.Nat.{mod_self, mod-add-mod, add-mod-mod, add-mod, zero-mod, mod-add-div, add-mul-mod_self_left}
+use Rattle.std.specs.Prelude.{◌≡◌, ℕ, zero, suc, ◌+◌, ◌-◌, ◌*◌, ◌%◌, ◌<◌, ◌≤◌, T, List, ◌==◌, ◌≢◌, nat_lt, refl}
+use Rattle.std.proofs.Common.{sym, ap, ◌∙◌, add_assoc, add_comm, add-zero, mul_comm, mul_assoc, mul-one, mul-add, zero-mul, mod-lt, mod-eq_of_lt, arith, eqb→eq, ltb→lt}
+use Rattle.std.proofs.Math.Nat.{mod_self, mod-add-mod, add-mod-mod, add-mod, zero-mod}
+use Rattle.std.proofs.lemmas.Nat.{mul-mod_first, mul-mod_second}
 use Rattle.checks.specs.Checks.{at}
 use Rattle.field.specs.Field.{Lawful}
 use Rattle.field.proofs.Tested.{all, at as passed, both, both_left, both_right}
 use Rattle.field.proofs.Inverse.{inverse_below, inverse_found, inverse_none, unique}
 use Rattle.prime.specs.Prime.{remainders}
-
-pub mod-mul : (a b p : ℕ) → (a % p) * b % p ≡ a * b % p
-mod-mul a b p =
-    sym (ap (λ n. n * b % p) (sym (mod-add-div a p)) ∙ ap (λ n. n % p) (add-mul (a % p) (p * (a / p)) b ∙ ap (λ n. a % p * b + n) (mul_assoc p (a / p) b))
-    ∙ add-mul-mod_self_left (a % p * b) p (a / p * b))
-
-pub mul-mod : (a b p : ℕ) → a * (b % p) % p ≡ a * b % p
-mul-mod a b p = ap (λ n. n % p) (mul_comm a (b % p)) ∙ mod-mul b a p ∙ ap (λ n. n % p) (mul_comm b a)
 
 module _ (p : ℕ) (low : 2 ≤ p) (high : p ≤ 65536) (others : (a : ℕ) → a < p → (a ≢ 0) → (x : ℕ) × (x < p) × (a * x % p ≡ 1)) where
   above : 0 < p
@@ -33,10 +26,10 @@ module _ (p : ℕ) (low : 2 ≤ p) (high : p ≤ 65536) (others : (a : ℕ) → 
     sum_zero = λ a ha. ap (λ n. n % p) (add-zero a) ∙ mod-eq_of_lt ha;
     sum_negative = λ a ha. let whole : a + (p - a) ≡ p = omega arith in add-mod-mod a (p - a) p ∙ ap (λ n. n % p) whole ∙ mod_self p;
     product_comm = λ a b ha hb. ap (λ n. n % p) (mul_comm a b);
-    product_assoc = λ a b e ha hb he. mod-mul (a * b) e p ∙ ap (λ n. n % p) (mul_assoc a b e) ∙ sym (mul-mod a (b * e) p);
+    product_assoc = λ a b e ha hb he. mul-mod_first (a * b) e p ∙ ap (λ n. n % p) (mul_assoc a b e) ∙ sym (mul-mod_second a (b * e) p);
     product_one = λ a ha. ap (λ n. n % p) (mul-one a) ∙ mod-eq_of_lt ha;
     product_inverse = λ a ha na. let x = others a ha na in inverse_found (λ a b. a * b % p) p a x.0 x.1 x.2;
-    product_sum = λ a b e ha hb he. mul-mod a (b + e) p ∙ ap (λ n. n % p) (mul-add a b e) ∙ add-mod (a * b) (a * e) p;
+    product_sum = λ a b e ha hb he. mul-mod_second a (b + e) p ∙ ap (λ n. n % p) (mul-add a b e) ∙ add-mod (a * b) (a * e) p;
     inverse_zero = inverse_none (λ a b. a * b % p) 0 (λ b. ap (λ n. n % p) (zero-mul b) ∙ zero-mod p) p;
   }
 
@@ -59,5 +52,5 @@ module _ (top : ℕ) (table : List ℕ) (low : 2 ≤ suc top) (high : suc top �
   inverse_by_table zero h = zeroth ∙ sym lawful_by_table.inverse_zero
   inverse_by_table (suc k) h =
       let n : suc k ≡ 0 → ⊥ = λ e. omega arith in
-      unique lawful_by_table (suc k) (at table (suc k)) ((remainders (suc top)).inverse (suc k)) h (found_in (suc k) h n) (lawful_by_table.inverse_element (suc k) h)
-      (found (suc k) h n) (lawful_by_table.product_inverse (suc k) h n)
+      unique lawful_by_table (suc k) (at table (suc k)) ((remainders (suc top)).inverse (suc k)) h (found_in (suc k) h n)
+      (lawful_by_table.inverse_element (suc k) h) (found (suc k) h n) (lawful_by_table.product_inverse (suc k) h n)

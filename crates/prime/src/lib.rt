@@ -2,7 +2,6 @@
 #![tactic(auto)]
 
 ghost use Rattle.std.specs.Prelude.{◌≡◌, ◌<◌, if◌then◌else◌, nat_lt};
-ghost use Rattle.field.specs.Field.{Steps};
 ghost use Rattle.prime.specs.Prime.{prime, prime_size, inverse_table};
 ghost use Rattle.prime.specs.Instance;
 
@@ -41,6 +40,7 @@ fn element(a: u16) -> u16
     if a < SIZE { a } else { 0 }
 }
 
+#[tactic(auto, using(crate::specs::Instance::inverse_last, crate::specs::Instance::inverse_low))]
 fn element_inverse(a: u16) -> u16
     requires element { a < prime_size }
     ensures { result ≡ prime.inverse a }
@@ -48,7 +48,7 @@ fn element_inverse(a: u16) -> u16
     if a == LAST {
         LAST
     } else {
-        inverses()[a as usize] as u16
+        u16::from(inverses()[usize::from(a)])
     }
 }
 
@@ -83,18 +83,13 @@ impl Field for PrimeField {
     }
 }
 
-// The powers of 3 from 0 to 255 are all different. A call does nothing but tell the proof so.
-fn steps()
-    ensures { Steps prime 3 256 }
-{}
-
 impl SteppedField for PrimeField {
     ghost first = { λ _. 3 };
 
     ghost period = { λ _. 256 };
 
+    #[tactic(auto, using(crate::specs::Instance::steps))]
     fn step(&self) -> (u16, u32) {
-        steps();
         (STEP, PERIOD)
     }
 }
