@@ -1,6 +1,7 @@
 -- Keeping a packet, by the fields of a receiver. Assumes nothing.
-use Rattle.std.proofs.Common.{◌≡◌, ℕ, ◌+◌, ◌*◌, ◌<◌, ◌≤◌, List, length, take, set, sym, ap, ◌∙◌, subst, arith}
+use Rattle.std.proofs.Common.{◌≡◌, ℕ, ◌+◌, ◌*◌, ◌<◌, ◌≤◌, true, false, leb, List, length, take, set, sym, ap, ◌∙◌, subst, arith}
 use Rattle.std.proofs.lemmas.List.{length-set}
+use Rattle.std.proofs.lemmas.Bool.{leb-true, leb-false}
 use Rattle.code.specs.Plans.{PlanView, Sound}
 use Rattle.code.proofs.Views.{sound_of}
 use Rattle.receiver.specs.Machine.{count}
@@ -8,12 +9,13 @@ use Rattle.receiver.specs.Receivers.{state, plan_of, state_of, kept}
 use Rattle.receiver.specs.Shelves.{shelved, row_on, with_row}
 use Rattle.receiver.specs.States.{Reached}
 use Rattle.receiver.specs.declared.receiver.Receiver.{Receiver}
+use Rattle.receiver.proofs.Fields.{count-fields}
 use Rattle.receiver.proofs.Reaches.{Held, held_of, shelf_end}
 use Rattle.receiver.proofs.Shelves.{count-state}
 use Rattle.receiver.proofs.Stored.{keep_room, kept_late, kept-early, row_below, row_here, length-with_row}
 
 -- the number n comes to the receiver r with its row
-module _ (r : Receiver) (all : length r.numbers ≡ 128) (n : ℕ) (row : List ℕ) (reached : Reached (plan_of r) (kept r n row)) where
+module _ (r : Receiver) (n : ℕ) (row : List ℕ) (reached : Reached (plan_of r) (kept r n row)) where
   abbrev p : PlanView
   p = plan_of r
 
@@ -31,13 +33,11 @@ module _ (r : Receiver) (all : length r.numbers ≡ 128) (n : ℕ) (row : List �
     pub many : r.count + 1 ≡ count (state p.m p.L (r.count + 1) numbers xs)
 
   pub fewer : r.count < 128
-  fewer =
-      let few : r.count ≤ length r.numbers = omega (arith, r.room, sound.m_most, sound.r_most) in
-      keep_room p sound (state_of r) _ r.count (count-state p.m p.L r.count r.numbers (shelved r.shelf) few) reached
+  fewer = keep_room p sound (state_of r) _ r.count (count-fields r) reached
 
   from_state : (xs : List ℕ) → length xs ≡ 8192 → state p.m p.L (r.count + 1) numbers xs ≡ kept r n row → Kept xs
   from_state xs whole is =
-      let few : r.count + 1 ≤ length numbers = omega (arith, fewer, length-set r.numbers r.count n) in
+      let few : r.count + 1 ≤ length numbers = omega (arith, fewer, r.places, length-set r.numbers r.count n) in
       record {
         leaves = is;
         held = held_of p sound (r.count + 1) numbers xs few whole (subst (Reached p) (sym is) reached);
@@ -46,15 +46,21 @@ module _ (r : Receiver) (all : length r.numbers ≡ 128) (n : ℕ) (row : List �
       }
 
   -- m are stored
-  pub late : p.m ≤ r.count → Kept (shelved r.shelf)
-  late full = from_state (shelved r.shelf) r.whole (kept_late p r.count r.numbers (shelved r.shelf) n row (omega (arith, fewer)) full)
+  pub late : true ≡ leb p.m r.count → Kept (shelved r.shelf)
+  late full =
+      from_state (shelved r.shelf) r.whole
+      (kept_late p r.count r.numbers (shelved r.shelf) n row (omega (arith, fewer, r.places)) (leb-true p.m r.count (sym full)))
 
   -- fewer are
-  pub early : r.count < p.m → length row ≡ p.L → (xs : List ℕ) → xs ≡ with_row (shelved r.shelf) r.count row → Kept xs
-  early less fits xs put =
-      let shelf = shelved r.shelf in
-      let room : r.count * p.L + p.L ≤ length shelf = omega (arith, shelf_end r.count p.L (omega (arith, sound.m_most)) sound.L_most, r.whole) in
-      from_state xs (ap length put ∙ length-with_row r.count p.L shelf row fits room ∙ r.whole)
-      (kept-early p r.count r.numbers shelf n row (omega (arith, fewer)) less xs
-      (ap (take (r.count * p.L)) put ∙ row_below r.count p.L shelf row fits room)
-      (ap (λ zs. row_on zs r.count p.L) put ∙ row_here r.count p.L shelf row fits room))
+  module _ (less : false ≡ leb p.m r.count) (fits : length row ≡ p.L) where
+    pub on_shelf : r.count * length row + length row ≤ 8192
+    on_shelf = rw fits (shelf_end r.count p.L (omega (arith, leb-false p.m r.count (sym less), sound.m_most)) sound.L_most)
+
+    pub early : (xs : List ℕ) → xs ≡ with_row (shelved r.shelf) r.count row → Kept xs
+    early xs put =
+        let shelf = shelved r.shelf in
+        let room : r.count * p.L + p.L ≤ length shelf = omega (arith, rw fits at on_shelf, r.whole) in
+        from_state xs (ap length put ∙ length-with_row r.count p.L shelf row fits room ∙ r.whole)
+        (kept-early p r.count r.numbers shelf n row (omega (arith, fewer, r.places)) (leb-false p.m r.count (sym less)) xs
+        (ap (take (r.count * p.L)) put ∙ row_below r.count p.L shelf row fits room)
+        (ap (λ zs. row_on zs r.count p.L) put ∙ row_here r.count p.L shelf row fits room))

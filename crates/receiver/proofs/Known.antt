@@ -1,9 +1,9 @@
 -- What is known of a number's row, and what the last check of an offer says. Assumes nothing.
-use Rattle.std.proofs.Common.{◌≡◌, ℕ, Bool, true, false, cond, ◌⊎◌, List, length, Some, None, Option, sym, refl, ap, ◌∙◌, inl, inr, arith}
+use Rattle.std.proofs.Common.{◌≡◌, ℕ, min, Bool, true, false, cond, ◌⊎◌, List, length, Some, None, Option, Result, sym, refl, ap, ◌∙◌, inl, inr, arith}
 use Rattle.std.specs.List.{AllByRecursion}
 use Rattle.std.proofs.ByRecursion.{All-weaker}
 use Rattle.std.proofs.lemmas.Bool.{both_ways}
-use Rattle.checks.specs.Checks.{lowest, differs}
+use Rattle.checks.specs.Checks.{answered, lowest, differs}
 use Rattle.checks.proofs.Lowest.{same_rows, no_difference}
 use Rattle.checks.proofs.Order.{none_some}
 use Rattle.code.specs.Plans.{PlanView}
@@ -11,7 +11,9 @@ use Rattle.code.specs.Rows.{Packet, row, Explains}
 use Rattle.code.specs.Settles.{Good, New}
 use Rattle.code.proofs.Rows.{length-row}
 use Rattle.field.specs.Field.{Ops}
-use Rattle.receiver.specs.Machine.{State, settled, find, or_else, known, judged, against}
+use Rattle.receiver.specs.Examining.{Knows, Judges}
+use Rattle.receiver.specs.Machine.{State, settled, heard, find, or_else, known, judged, against}
+use Rattle.receiver.specs.declared.fault.ReceiverFault.{ReceiverFault}
 use Rattle.receiver.specs.declared.fault.ReceiverFault.TheVariants.{Contradicts}
 use Rattle.receiver.proofs.Finding.{new_find, found}
 
@@ -84,3 +86,11 @@ against_same b k = ap (judged b k.number) (no_difference k.row (length k.row))
 pub judged_none : (b : Bool) (n place : ℕ) → judged b n None ≡ Some (Contradicts place) → ⊥
 judged_none true n place e = let z : ◌≡◌ {A = ℕ} 0 1 = cc in omega arith
 judged_none false n place e = none_some _ _ refl e
+
+-- what the last check finds of the packet k where its row is known to be y
+pub judges_known : (o : Ops) (p : PlanView) (s : State) (k : Packet) (y : List ℕ) → Knows o p s k.number (Some y) → length y ≡ length k.row
+    → (r : Result (Unit {0}) ReceiverFault) → r ≡ answered (judged (heard s k.number) k.number (lowest (differs y k.row) (min (length y) (length k.row)))) tt
+    → Judges o p s k r
+judges_known o p s k y knows long r is M fits =
+    let all : min (length y) (length k.row) ≡ length k.row = omega arith in
+    is ∙ rw (knows M fits, all)

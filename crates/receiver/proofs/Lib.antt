@@ -2,6 +2,7 @@ pub mod Numbers
 pub mod Shelves
 pub mod Reaches
 pub mod Stored
+pub mod Fields
 pub mod Kept
 pub mod Examining
 pub mod Scales
@@ -22,6 +23,7 @@ pub mod Growing
 pub mod Settled
 pub mod Replays
 pub mod Knowing
+pub mod Judging
 pub mod Offering
 pub mod Answering
 pub mod Making

@@ -1,24 +1,18 @@
 -- A run of calls that grows. Assumes nothing.
-use Rattle.std.proofs.Common.{◌≡◌, ℕ, ◌+◌, ◌<◌, List, [], ◌∷◌, ◌++◌, length, get_or, take, vec_items, Result, Vec, sym, refl, ap, ◌∙◌, subst, Bor}
-use Rattle.std.specs.Vec.{with_items}
-use Rattle.std.specs.declared.alloc.Global.{Global}
+use Rattle.std.proofs.Common.{◌≡◌, ℕ, ◌+◌, ◌<◌, List, [], ◌∷◌, ◌++◌, length, get_or, take, sym, refl, ap, ◌∙◌, subst}
 use Rattle.std.specs.List.{AllByRecursion}
 use Rattle.std.proofs.ByRecursion.{All-push}
-use Rattle.std.proofs.lemmas.List.{take_more, with_items_is}
+use Rattle.std.proofs.lemmas.List.{take_more}
 use Rattle.code.specs.Plans.{PlanView, Sound}
 use Rattle.field.specs.Field.{Ops, Lawful}
 use Rattle.packet.specs.declared.Job.{Job}
 use Rattle.receiver.specs.Calls.{event, events, Alike, AllAlike, Makes, Ran}
 use Rattle.receiver.specs.Machine.{opened, Step}
-use Rattle.receiver.specs.Machine as machine
-use Rattle.receiver.specs.Receivers.{plan_of, job_of, state_of, read_answer, rebuild_answer, Answers, Keeps}
+use Rattle.receiver.specs.Receivers.{plan_of, job_of, state_of, Keeps}
 use Rattle.receiver.specs.Runs.{Bytes, Runs}
-use Rattle.receiver.specs.declared.fault.ReceiverFault.{ReceiverFault}
 use Rattle.receiver.specs.declared.receiver.Receiver.{Receiver}
 use Rattle.receiver.specs.declared.run.Call.{Call}
-use Rattle.receiver.specs.declared.run.Call.TheVariants.{Read, Rebuild}
 use Rattle.receiver.specs.declared.run.Done.{Done}
-use Rattle.receiver.specs.declared.run.Done.TheVariants.{Filled, Rebuilt}
 use Rattle.receiver.proofs.Replays.{runs_push, promised}
 
 -- the calls cs were made, ds were done, and the receiver is r now
@@ -75,27 +69,3 @@ module _ (o : Ops) (p : PlanView) (j : Job) where
     last = state_of r;
     promised = promised o lawful p sound j (events cs ds) going.bytes (state_of r) going.run;
   }
-
--- a buffer that was made of what it is to hold before, and lent to a reading or a rebuild
-module _ (o : Ops) (r : Receiver) (call : Call) (before : Bor (List ℕ)) (v : Vec ℕ Global) (entry ws : List ℕ)
-    (lent : entry ≡ vec_items v) (copied : vec_items v ≡ before.now) (long : length ws ≡ length entry) where
-  filled : vec_items (with_items v ws) ≡ ws
-  filled = with_items_is v ws (long ∙ ap length lent ∙ sym v.ok.0)
-
-  pub makes_reading : (a : Result (Unit {0}) ReceiverFault) → call ≡ Read before → Answers o r (machine.read entry) (read_answer a) ws r
-      → Makes o r call (Filled a (with_items v ws)) r
-  makes_reading a is answers = rw is (record {
-    alike = tt;
-    bytes = tt;
-    answers = subst (λ xs. Answers o r (machine.read before.now) (read_answer a) xs r) (sym filled)
-        (subst (λ xs. Answers o r (machine.read xs) (read_answer a) ws r) (lent ∙ copied) answers);
-  })
-
-  pub makes_rebuild : (n : ℕ) (a : Result ℕ ReceiverFault) → call ≡ Rebuild n before → Answers o r (machine.rebuild n entry) (rebuild_answer a) ws r
-      → Makes o r call (Rebuilt a (with_items v ws)) r
-  makes_rebuild n a is answers = rw is (record {
-    alike = tt;
-    bytes = tt;
-    answers = subst (λ xs. Answers o r (machine.rebuild n before.now) (rebuild_answer a) xs r) (sym filled)
-        (subst (λ xs. Answers o r (machine.rebuild n xs) (rebuild_answer a) ws r) (lent ∙ copied) answers);
-  })

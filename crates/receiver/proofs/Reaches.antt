@@ -10,12 +10,10 @@ use Rattle.code.specs.Nodes as nodes
 use Rattle.code.specs.Plans.{PlanView, Sound}
 use Rattle.code.specs.Settles.{Good}
 use Rattle.code.proofs.Rows.{row_within}
-use Rattle.code.proofs.Views.{sound_of}
 use Rattle.receiver.specs.Machine.{State}
-use Rattle.receiver.specs.Receivers.{packet_at, state, plan_of, state_of}
-use Rattle.receiver.specs.Shelves.{shelved, row_on}
+use Rattle.receiver.specs.Receivers.{packet_at, state}
+use Rattle.receiver.specs.Shelves.{row_on}
 use Rattle.receiver.specs.States.{Unlike, Reached}
-use Rattle.receiver.specs.declared.receiver.Receiver.{Receiver}
 use Rattle.receiver.proofs.Shelves.{numbers-state, count-state}
 
 -- what a receiver keeps of its fields
@@ -109,11 +107,3 @@ module _ (p : PlanView) (sound : Sound p) (k : ℕ) (numbers shelf : List ℕ) (
             row-symbol shelf (i / p.L) p.L (i % p.L) s ∙ ap (at shelf) (div-add-mod' i p.L) in
             rw is at (All-get_or (λ y. y < p.q) (row_on shelf (i / p.L) p.L) (i % p.L) 0 (omega (arith, stored_row (i / p.L) t)) (good (i / p.L) t).elements);
       }
-
--- every receiver
-module _ (r : Receiver) where
-  pub held_by : Held (plan_of r) r.count r.numbers (shelved r.shelf)
-  held_by = record { room = r.room; inside = r.inside; apart = r.apart; symbols = r.symbols }
-
-  pub reached_by : r.count ≤ length r.numbers → Reached (plan_of r) (state_of r)
-  reached_by long = reached_of (plan_of r) (sound_of r.plan) r.count r.numbers (shelved r.shelf) long r.whole held_by

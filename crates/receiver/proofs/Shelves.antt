@@ -1,16 +1,16 @@
 -- What the parts of a receiver say of the state that it holds. Assumes nothing.
-use Rattle.std.proofs.Common.{◌≡◌, ℕ, ◌≤◌, min, List, ◌++◌, map, length, take, drop, sym, ap, ◌∙◌, ap₂, inl, inr, arith}
+use Rattle.std.proofs.Common.{◌≡◌, ◌==◌, ℕ, ◌≤◌, min, List, ◌++◌, map, length, take, drop, sym, ap, ◌∙◌, ap₂, inl, inr, arith}
 use lib.Seq.{drop-nil}
 use Rattle.std.specs.List.{range_with_len}
 use Rattle.std.proofs.lemmas.List.FromFn.{fill_by_all, length-map-range_with_len}
 use Rattle.std.proofs.lemmas.Simd.{map-map}
 use Rattle.std.proofs.lemmas.Bool.{cases_lt}
+use Rattle.std.proofs.lemmas.List.Folds.{list_any-append}
 use Rattle.std.proofs.lemmas.List.{get_or-take, length-take, length-drop, take-take, take-append-drop, drop_all, append-nil}
 use Rattle.checks.specs.Checks.{at}
 use Rattle.receiver.specs.Machine.{opened, count, heard, has}
 use Rattle.receiver.specs.Receivers.{packet_at, state}
 use Rattle.receiver.specs.States.{numbers_of}
-use Rattle.receiver.proofs.Numbers.{has-append}
 
 module _ (m len k : ℕ) (numbers shelf : List ℕ) (room : k ≤ length numbers) where
   stored-numbers : map (λ p. p.number) (map (packet_at len numbers shelf) (range_with_len 0 (min k m))) ≡ take (min k m) numbers
@@ -36,7 +36,7 @@ module _ (m len k : ℕ) (numbers shelf : List ℕ) (room : k ≤ length numbers
   pub heard-state : (n : ℕ) → heard (state m len k numbers shelf) n ≡ has n (take k numbers)
   unfolding state
   heard-state n =
-      sym (has-append n (map (λ p. p.number) (state m len k numbers shelf).stored) (state m len k numbers shelf).later) ∙ ap (has n) numbers-state
+      sym (list_any-append (λ x. x == n) (map (λ p. p.number) (state m len k numbers shelf).stored) (state m len k numbers shelf).later) ∙ ap (has n) numbers-state
 
   pub count-state : count (state m len k numbers shelf) ≡ k
   unfolding state

@@ -78,13 +78,13 @@ module _ (p : PlanView) (ns rows : List ℕ) (given : Given p ns rows) where
     some_fits = some_message o lawful p sound size ks (omega (arith, length-packets)) good-packets different-packets
 
     -- a row that is not known
-    pub lost_row : (n k : ℕ) (factors out : List ℕ) → n < p.m + p.r → Lacks ns n → k ≡ p.m → p.m ≤ length factors → Parts o p ns n factors
-        → length out ≡ p.L → Combined o (take (k - 0) factors) rows out → RowOf o p ks n out
-    lost_row n k factors out within lacks count room parts long sums M e =
+    pub lost_row : (n : ℕ) (factors out : List ℕ) → n < p.m + p.r → Lacks ns n → p.m ≤ length factors → Parts o p ns n factors
+        → length out ≡ p.L → Combined o (take (length ns) factors) rows out → RowOf o p ks n out
+    lost_row n factors out within lacks room parts long sums M e =
         solved_row o lawful p sound size ns (λ i h. given.numbered.inside i (omega (arith, given.numbered.many)))
         (λ i j h l. given.apart i j (omega (arith, given.numbered.many)) l) given.numbered.many M e.message n within lacks rows out
         (λ t h s l. sym (row-symbol rows t p.L s l) ∙ ap (λ ys. at ys s) (sym (fits_at o M e t h)))
         long (λ s h.
-        let front : k - 0 ≡ p.m = omega arith in
-        sums s (omega arith) ∙ rw (front, long, length-take-le p.m factors room)
+        let many = given.numbered.many in
+        sums s (omega arith) ∙ rw (many, long, length-take-le p.m factors room)
         (dot_same (numbers o) _ _ _ _ p.m (λ j l. get_or-take p.m factors j 0 l ∙ parts j l) (λ j l. refl)))

@@ -6,4 +6,5 @@ pub mod Runs
 pub mod Receivers
 pub mod Examining
 pub mod Solves
+pub mod Solvers
 pub mod Calls

@@ -6,8 +6,8 @@
 --     known o p M s n         the row of number n, where it is known; M is the message, if m are accepted
 --     rule o p j M s c        the outcome of a call, by its checks in their order
 --     Step o p j s c a after t    the machine goes from s to t with this call, answer and later content of the buffer
---     Reached p s             what every state keeps
 use Rattle.std.specs.Prelude.{◌≡◌, ℕ, ◌+◌, ◌*◌, Bool, true, false, cond, ◌||◌, List, [], ◌∷◌, ◌++◌, map, length, drop, is_some, Some, None, Option, ◌==◌, nat_le, nat_lt}
+use Rattle.std.specs.List.{list_any}
 use Rattle.std.specs.Option.{option_map, unwrap_or}
 use Rattle.checks.specs.Checks.{unless, first, lowest, too_large, differs}
 use Rattle.code.specs.Plans.{PlanView}
@@ -57,8 +57,7 @@ keeping p s k =
 
 -- n is among the numbers
 abbrev pub has : ℕ → List ℕ → Bool
-has n [] = false
-has n (x ∷ xs) = x == n || has n xs
+has n = list_any (λ x. x == n)
 
 abbrev pub heard : State → ℕ → Bool
 heard s n = has n (map (λ k. k.number) s.stored) || has n s.later

@@ -11,7 +11,7 @@
 --     Lacks ns n              none of the numbers is n
 --     First ns n t            n stands at place t and at none before
 --     RowOf o p ks n out      out is row n of every message that fits the packets ks
-use Rattle.std.specs.Prelude.{◌≡◌, ℕ, ◌+◌, ◌*◌, ◌<◌, ◌≤◌, List, map, length}
+use Rattle.std.specs.Prelude.{◌≡◌, ℕ, ◌+◌, ◌*◌, ◌<◌, List, map, length}
 use Rattle.std.specs.List.{range_with_len}
 use Rattle.checks.specs.Checks.{at}
 use Rattle.code.specs.Nodes.{Elements, Apart}
@@ -21,7 +21,6 @@ use Rattle.code.specs.Solving.{away, slope, scale, weight, part}
 use Rattle.field.specs.Field.{Ops}
 use Rattle.field.specs.Rows.{numbers}
 use Rattle.receiver.specs.Receivers.{packet_at}
-use Rattle.receiver.specs.declared.solve.weights.Weights.{Weights}
 
 abbrev pub packets : PlanView → List ℕ → List ℕ → List Packet
 packets p ns rows = map (packet_at p.L ns rows) (range_with_len 0 p.m)
@@ -46,16 +45,11 @@ pub record ProductsAt (o : Ops) (nodes : List ℕ) (z a s : ℕ) : Type 0 where
 abbrev pub scale_in : Ops → PlanView → ℕ → ℕ
 scale_in o p n = scale (numbers o) (at p.nodes) p.m n
 
-pub record Weighs (o : Ops) (p : PlanView) (ns : List ℕ) (w : Weights) : Type 0 where
-  pub room : p.m ≤ length w.nodes
-  pub nodes : Placed p ns w.nodes
-  pub weights : (t : ℕ) → t < p.m → at w.weights t ≡ weight (numbers o) (at p.nodes) p.m (at ns) t
+abbrev pub Weighs : Ops → PlanView → List ℕ → List ℕ → Type 0
+Weighs o p ns ws = (t : ℕ) → t < p.m → at ws t ≡ weight (numbers o) (at p.nodes) p.m (at ns) t
 
 abbrev pub Parts : Ops → PlanView → List ℕ → ℕ → List ℕ → Type 0
 Parts o p ns n factors = (t : ℕ) → t < p.m → at factors t ≡ part (numbers o) (at p.nodes) p.m (at ns) n t
-
-abbrev pub PartsBy : Ops → PlanView → Weights → ℕ → List ℕ → Type 0
-PartsBy o p w n factors = (ns : List ℕ) → Weighs o p ns w → Parts o p ns n factors
 
 abbrev pub Lacks : List ℕ → ℕ → Type 0
 Lacks ns n = (t : ℕ) → t < length ns → ¬ (at ns t ≡ n)

@@ -6,7 +6,7 @@ ghost use Rattle.code.specs.Plans.{view};
 ghost use Rattle.receiver.specs.Shelves.{shelved};
 
 use crate::shelf::Shelf;
-use code::plan::Plan;
+use code::plan::{MOST_NODES, Plan};
 use packet::Job;
 
 pub mod asks;
@@ -17,13 +17,15 @@ mod reads;
 
 // The accepted numbers stand in the order in which they came, and the rows of the first m of them on the shelf.
 // Rows accepted later are not kept: they are the message's, over whatever field a call names.
+// Kept: an array beside its count, since a receiver is copied and has no heap on the device.
 #[derive(Clone, Copy)]
 pub struct Receiver {
     plan: Plan,
     job: Job,
     shelf: Shelf,
-    numbers: [u16; 128],
+    numbers: [u16; MOST_NODES],
     count: usize,
+    ghost places: { length numbers ≡ 128 },
     ghost room: { count ≤ (view plan).m + (view plan).r },
     ghost inside: { Elements ((view plan).m + (view plan).r) count numbers },
     ghost apart: { Apart count numbers },

@@ -5,6 +5,7 @@ ghost use Rattle.receiver.specs.Shelves.{shelved, with_row, row_on};
 pub const SHELF_LEN: usize = 8192;
 
 // The symbols of up to 64 rows of up to 128 symbols, one row behind the other.
+// Kept: fixed memory in this form, for the device.
 #[derive(Clone, Copy)]
 pub struct Shelf {
     symbols: [u16; 8192],
@@ -41,6 +42,6 @@ impl Shelf {
         requires within { count ≤ 8192 }
         ensures { result.now ≡ take count (shelved self.now) }
     {
-        &self.symbols[0..count]
+        &self.symbols[..count]
     }
 }

@@ -1,5 +1,5 @@
 // Opening a receiver, and what it answers of itself.
-ghost use Rattle.std.specs.Prelude.{◌≡◌, ◌<◌};
+ghost use Rattle.std.specs.Prelude.{◌≡◌, ◌<◌, nat_le};
 ghost use Rattle.code.specs.Plans.{view};
 ghost use Rattle.receiver.specs.Machine.{count as count_of, heard, opened, settled};
 ghost use Rattle.receiver.specs.Receivers.{plan_of, job_of, state_of, Missing};
@@ -8,7 +8,7 @@ ghost use Rattle.receiver.specs.States.{Settles};
 
 use super::Receiver;
 use crate::shelf::Shelf;
-use code::plan::Plan;
+use code::plan::{MOST_NODES, Plan};
 use packet::Job;
 
 impl Receiver {
@@ -17,13 +17,13 @@ impl Receiver {
     pub fn open(plan: &Plan, job: Job) -> Receiver
         ensures plans { (plan_of result ≡ view plan.now) × (job_of result ≡ job) }
         ensures leaves { state_of result ≡ opened }
-        ensures settles { (Settles) × ((OneRun) × (Promise)) }
+        ensures settles { Settles × (OneRun × Promise) }
     {
         Receiver {
             plan: *plan,
             job,
             shelf: Shelf::new(),
-            numbers: [0; 128],
+            numbers: [0; MOST_NODES],
             count: 0,
         }
     }
@@ -32,19 +32,15 @@ impl Receiver {
     pub(crate) fn is_accepted(&self, number: u16) -> bool
         ensures { result ≡ heard (state_of self.now) number }
     {
-        for t in 0..self.count {
-            if self.numbers[t] == number {
-                return true;
-            }
-        }
-        false
+        self.numbers[..self.count].contains(&number)
     }
 
     // Whether m are accepted, so that every row is known.
     pub(crate) fn is_settled(&self) -> bool
-        ensures { result ≡ settled (plan_of self.now) (state_of self.now) }
+        ensures answers { result ≡ settled (plan_of self.now) (state_of self.now) }
+        ensures counts { result ≡ nat_le (plan_of self.now).m self.now.count }
     {
-        self.count >= self.plan.data_count()
+        self.plan.settled_by(self.count)
     }
 
     // How many are accepted.
@@ -58,12 +54,6 @@ impl Receiver {
     pub fn missing(&self) -> Option<u16>
         ensures { Missing (plan_of self.now) (state_of self.now) result }
     {
-        for n in 0..self.plan.data_count() {
-            let number = n as u16;
-            if !self.is_accepted(number) {
-                return Some(number);
-            }
-        }
-        None
+        (0..self.plan.data_count() as u16).find(|number| !self.is_accepted(*number))
     }
 }

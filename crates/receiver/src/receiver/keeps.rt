@@ -16,7 +16,7 @@ impl Receiver {
         ensures unchanged { Keeps self.old self.new }
         ensures leaves { state_of self.new ≡ kept self.old number row.now }
     {
-        if self.count < self.plan.data_count() {
+        if !self.is_settled() {
             self.shelf.put(self.count, row);
         }
         self.numbers[self.count] = number;

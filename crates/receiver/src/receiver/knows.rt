@@ -1,32 +1,96 @@
-// The rows that a receiver knows.
-ghost use Rattle.std.specs.Prelude.{◌≡◌, ◌+◌, ◌<◌, length};
-ghost use Rattle.receiver.specs.Examining.{Knows};
+// What a receiver knows of rows, over a field of its plan's size.
+ghost use Rattle.std.specs.Prelude.{◌≡◌, ◌==◌, ◌+◌, ◌<◌, true, length, Some, IfSome, MatchResult};
+ghost use Rattle.std.specs.Option.{option_map};
+ghost use Rattle.checks.specs.Checks.{unless};
+ghost use Rattle.receiver.specs.Examining.{Knows, Judges};
+ghost use Rattle.receiver.specs.Machine.{settled};
 ghost use Rattle.receiver.specs.Receivers.{plan_of, state_of};
+ghost use Rattle.receiver.specs.Solvers.{plan_in, packets_in};
+ghost use Rattle.receiver.specs.declared.fault.ReceiverFault.TheVariants.{OtherField};
 
 use super::Receiver;
-use crate::solve::{place_of, solve_row};
+use crate::fault::ReceiverFault;
+use crate::solve::{Solver, place_of};
+use checks::first_difference;
+use code::plan::MOST_SYMBOLS;
 use field::Field;
 
+// A receiver over a field of its plan's size.
+#[derive(Drop)]
+pub(super) struct Over<'a, F: Field> {
+    receiver: &'a Receiver,
+    field: &'a F,
+    ghost sized: { (F.ops field.now).size ≡ (plan_of receiver.now).q },
+}
+
 impl Receiver {
-    // Writes the row of that number if it is known, over this field.
-    pub(crate) fn write_known<F: Field>(&self, field: &F, number: usize, out: &mut [u16]) -> bool
-        requires sized { (F.ops field.now).size ≡ (plan_of self.now).q }
-        requires within { number < (plan_of self.now).m + (plan_of self.now).r }
-        requires fits { length out.old ≡ (plan_of self.now).L }
-        ensures { Knows (F.ops field.now) (plan_of self.now) (state_of self.now)
-            number result out.new }
+    // The receiver over that field.
+    pub(super) fn over<'a, F: Field>(&'a self, field: &'a F) -> Result<Over<'a, F>, ReceiverFault>
+        ensures { MatchResult result
+            (λ over. (over.receiver.now ≡ self.now) × (over.field.now ≡ field.now))
+            (λ f. unless ((F.ops field.now).size == (plan_of self.now).q) (OtherField (plan_of self.now).q) ≡ Some f) }
     {
-        let data_count = self.plan.data_count();
-        if self.count >= data_count {
-            let numbers = &self.numbers[0..data_count];
-            let rows = self.shelf.front(self.plan.message_len());
-            solve_row(field, &self.plan, numbers, rows, number, out);
-            return true;
+        if field.size() != self.plan.size() {
+            return Err(ReceiverFault::OtherField(self.plan.size() as usize));
         }
-        if let Some(t) = place_of(&self.numbers[0..self.count], number) {
-            out.copy_from_slice(self.shelf.row(t, self.plan.row_len()));
-            return true;
+        Ok(Over {
+            receiver: self,
+            field,
+        })
+    }
+}
+
+impl<'a, F: Field> Over<'a, F> {
+    // Solves for rows from the m packets that are kept.
+    pub(super) fn solver(&self) -> Solver<'a, F>
+        requires { settled (plan_of self.now.receiver.now) (state_of self.now.receiver.now) ≡ true }
+        ensures fields { result.field.now ≡ self.now.field.now }
+        ensures plans { plan_in result ≡ plan_of self.now.receiver.now }
+        ensures knows { packets_in result ≡ (state_of self.now.receiver.now).stored }
+    {
+        let receiver = self.receiver;
+        let numbers = &receiver.numbers[..receiver.plan.data_count()];
+        let rows = receiver.shelf.front(receiver.plan.message_len());
+        Solver::new(self.field, &receiver.plan, numbers, rows)
+    }
+
+    // The row of that number if it is known: as it is kept, or solved in `room`.
+    pub(super) fn row<'b>(&self, number: usize, room: &'b mut [u16]) -> Option<&'b [u16]>
+    where
+        'a: 'b,
+        requires within { number < (plan_of self.now.receiver.now).m + (plan_of self.now.receiver.now).r }
+        requires fits { length room.old ≡ (plan_of self.now.receiver.now).L }
+        ensures long { IfSome result
+            (λ row. length row.now ≡ (plan_of self.now.receiver.now).L) }
+        ensures answers { Knows (F.ops self.now.field.now) (plan_of self.now.receiver.now)
+            (state_of self.now.receiver.now) number (option_map (λ row. row.now) result) }
+    {
+        let receiver = self.receiver;
+        if receiver.is_settled() {
+            self.solver().write_row(number, room);
+            return Some(room);
         }
-        false
+        let t = place_of(&receiver.numbers[..receiver.count], number)?;
+        Some(receiver.shelf.row(t, receiver.plan.row_len()))
+    }
+
+    // The last check of an offer: the packet against the row that is known of its number.
+    pub(super) fn compare(&self, number: u16, row: &[u16]) -> Result<(), ReceiverFault>
+        requires within { number < (plan_of self.now.receiver.now).m + (plan_of self.now.receiver.now).r }
+        requires fits { length row.now ≡ (plan_of self.now.receiver.now).L }
+        ensures { Judges (F.ops self.now.field.now) (plan_of self.now.receiver.now)
+            (state_of self.now.receiver.now) (record { number = number; row = row.now }) result }
+    {
+        let mut room = [0; MOST_SYMBOLS];
+        let Some(known) = self.row(usize::from(number), &mut room[..row.len()]) else {
+            return Ok(());
+        };
+        if let Some(place) = first_difference(known, row) {
+            return Err(ReceiverFault::Contradicts(place));
+        }
+        if self.receiver.is_accepted(number) {
+            return Err(ReceiverFault::Repeated(usize::from(number)));
+        }
+        Ok(())
     }
 }

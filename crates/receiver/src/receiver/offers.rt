@@ -1,14 +1,17 @@
 // Offering the bytes of a packet.
-ghost use Rattle.std.specs.Prelude.{◌≡◌, ◌+◌, ◌<◌, true, length, is_err};
+ghost use Rattle.std.specs.Prelude.{◌≡◌, ◌==◌, ◌<◌, true, length, is_err};
 ghost use Rattle.std.specs.List.{AllByRecursion};
-ghost use Rattle.checks.specs.Checks.{first};
-ghost use Rattle.receiver.specs.Examining.{Examined, Judges};
+ghost use Rattle.std.specs.Option.{option_map};
+ghost use Rattle.checks.specs.Checks.{unless, first, answered};
+ghost use Rattle.packet.specs.Bytes.{word};
+ghost use Rattle.receiver.specs.Examining.{Examined, Judged};
 ghost use Rattle.receiver.specs.Machine.{job_checks, offer as an_offer};
 ghost use Rattle.receiver.specs.Receivers.{plan_of, job_of, state_of, offer_answer, Answers, Keeps};
+ghost use Rattle.receiver.specs.declared.fault.ReceiverFault.TheVariants.{OtherJob};
 
 use super::Receiver;
 use crate::fault::ReceiverFault;
-use checks::{first_difference, first_large};
+use checks::first_large;
 use code::plan::MOST_SYMBOLS;
 use field::Field;
 use packet::{
@@ -16,51 +19,38 @@ use packet::{
     symbols_of, word_at,
 };
 
+// That this number stands at that byte.
+fn check_number(bytes: &[u8], byte: usize, number: usize) -> Result<(), ReceiverFault>
+    ensures { result ≡ answered (unless (word bytes.now byte == number) (OtherJob byte)) tt }
+{
+    if usize::from(word_at(bytes, byte)) == number {
+        Ok(())
+    } else {
+        Err(ReceiverFault::OtherJob(byte))
+    }
+}
+
 impl Receiver {
-    // The byte of the first number of the header that is not this job's.
-    fn other_job(&self, bytes: &[u8]) -> Option<usize>
-        ensures { result ≡ first (job_checks (plan_of self.now) (job_of self.now)
-            bytes.now) }
+    // That the header has this job's numbers.
+    fn check_job(&self, bytes: &[u8]) -> Result<(), ReceiverFault>
+        ensures { result ≡ answered (option_map OtherJob
+            (first (job_checks (plan_of self.now) (job_of self.now) bytes.now))) tt }
     {
-        if usize::from(word_at(bytes, DATA_COUNT_AT)) != self.plan.data_count() {
-            return Some(DATA_COUNT_AT);
-        }
-        if usize::from(word_at(bytes, CHECK_COUNT_AT)) != self.plan.check_count() {
-            return Some(CHECK_COUNT_AT);
-        }
-        if usize::from(word_at(bytes, ROW_LEN_AT)) != self.plan.row_len() {
-            return Some(ROW_LEN_AT);
-        }
-        if u32::from(word_at(bytes, SIZE_AT)) + 1 != self.plan.size() {
-            return Some(SIZE_AT);
-        }
-        if word_at(bytes, JOB_NUMBER_AT) != self.job.number {
-            return Some(JOB_NUMBER_AT);
-        }
-        if word_at(bytes, JOB_LENGTH_AT) != self.job.length {
-            return Some(JOB_LENGTH_AT);
-        }
-        None
+        check_number(bytes, DATA_COUNT_AT, self.plan.data_count())?;
+        check_number(bytes, CHECK_COUNT_AT, self.plan.check_count())?;
+        check_number(bytes, ROW_LEN_AT, self.plan.row_len())?;
+        check_number(bytes, SIZE_AT, self.plan.size() as usize - 1)?;
+        check_number(bytes, JOB_NUMBER_AT, usize::from(self.job.number))?;
+        check_number(bytes, JOB_LENGTH_AT, usize::from(self.job.length))
     }
 
-    // Reads the number and the row of an offered packet that passes every check but the last.
-    fn examine<F: Field>(
-        &self,
-        field: &F,
-        bytes: &[u8],
-        row: &mut [u16],
-    ) -> Result<u16, ReceiverFault>
+    // Reads the number and the row of bytes that are a packet of this job.
+    fn examine(&self, bytes: &[u8], row: &mut [u16]) -> Result<u16, ReceiverFault>
         requires fits { length row.old ≡ (plan_of self.now).L }
-        ensures { Examined (F.ops field.now) (plan_of self.now)
-            (job_of self.now) bytes.now result row.new }
+        ensures { Examined (plan_of self.now) (job_of self.now) bytes.now result row.new }
     {
-        if field.size() != self.plan.size() {
-            return Err(ReceiverFault::OtherField(self.plan.size() as usize));
-        }
         let packet = open(bytes)?;
-        if let Some(byte) = self.other_job(bytes) {
-            return Err(ReceiverFault::OtherJob(byte));
-        }
+        self.check_job(bytes)?;
         let number = packet.number();
         if usize::from(number) >= self.plan.packet_count() {
             return Err(ReceiverFault::Number(usize::from(number)));
@@ -72,26 +62,21 @@ impl Receiver {
         Ok(number)
     }
 
-    // What the last check finds: the packet against the row that is known of its number, over this field.
-    fn against<F: Field>(&self, field: &F, number: u16, row: &[u16]) -> Option<ReceiverFault>
-        requires sized { (F.ops field.now).size ≡ (plan_of self.now).q }
-        requires within { number < (plan_of self.now).m + (plan_of self.now).r }
-        requires fits { length row.now ≡ (plan_of self.now).L }
-        ensures { Judges (F.ops field.now) (plan_of self.now)
-            (state_of self.now) (record { number = number; row = row.now }) result }
+    // Reads the number and the row of a packet that passes every check.
+    fn check_offer<F: Field>(
+        &self,
+        field: &F,
+        bytes: &[u8],
+        row: &mut [u16],
+    ) -> Result<u16, ReceiverFault>
+        requires fits { length row.old ≡ (plan_of self.now).L }
+        ensures { Judged (F.ops field.now) (plan_of self.now) (job_of self.now)
+            (state_of self.now) bytes.now result row.new }
     {
-        let mut room = [0; MOST_SYMBOLS];
-        let known = &mut room[0..row.len()];
-        if !self.write_known(field, usize::from(number), known) {
-            return None;
-        }
-        if let Some(place) = first_difference(known, row) {
-            return Some(ReceiverFault::Contradicts(place));
-        }
-        if self.is_accepted(number) {
-            return Some(ReceiverFault::Repeated(usize::from(number)));
-        }
-        None
+        let over = self.over(field)?;
+        let number = self.examine(bytes, row)?;
+        over.compare(number, row)?;
+        Ok(number)
     }
 
     // Offers the bytes of a packet. The answer is the count of accepted packets.
@@ -103,11 +88,8 @@ impl Receiver {
         ensures typed { AllByRecursion (λ b. b < 256) bytes.now }
     {
         let mut room = [0; MOST_SYMBOLS];
-        let row = &mut room[0..self.plan.row_len()];
-        let number = self.examine(field, bytes, row)?;
-        if let Some(fault) = self.against(field, number, row) {
-            return Err(fault);
-        }
+        let row = &mut room[..self.plan.row_len()];
+        let number = self.check_offer(field, bytes, row)?;
         Ok(self.keep(number, row))
     }
 }

@@ -7,20 +7,16 @@ ghost use Rattle.receiver.specs.Receivers.{plan_of, state_of, read_answer, rebui
 
 use super::Receiver;
 use crate::fault::ReceiverFault;
-use crate::solve::solve_message;
 use code::plan::MOST_SYMBOLS;
 use field::Field;
 use packet::{packet_len, write};
 
 impl Receiver {
-    // What forbids a reading into this buffer.
-    fn check_reading<F: Field>(&self, field: &F, message: &[u16]) -> Result<(), ReceiverFault>
-        ensures { result ≡ answered (first (read_front (F.ops field.now) (plan_of self.now)
-            (state_of self.now) message.now)) tt }
+    // What forbids a reading into this buffer, over whatever field.
+    fn check_reading(&self, message: &[u16]) -> Result<(), ReceiverFault>
+        ensures { result ≡ answered
+            (first (read_front (plan_of self.now) (state_of self.now) message.now)) tt }
     {
-        if field.size() != self.plan.size() {
-            return Err(ReceiverFault::OtherField(self.plan.size() as usize));
-        }
         let len = self.plan.message_len();
         if message.len() != len {
             return Err(ReceiverFault::Count(len));
@@ -36,26 +32,16 @@ impl Receiver {
         ensures { Answers (F.ops field.now) self.now (a_reading message.old)
             (read_answer result) message.new self.now }
     {
-        self.check_reading(field, message)?;
-        let numbers = &self.numbers[0..self.plan.data_count()];
-        let rows = self.shelf.front(self.plan.message_len());
-        solve_message(field, &self.plan, numbers, rows, message);
+        let over = self.over(field)?;
+        self.check_reading(message)?;
+        over.solver().write_message(message);
         Ok(())
     }
 
-    // What forbids a rebuild into this buffer, whether or not the row is known.
-    fn check_rebuild<F: Field>(
-        &self,
-        field: &F,
-        number: usize,
-        out: &[u8],
-    ) -> Result<(), ReceiverFault>
-        ensures { result ≡ answered (first (rebuild_front (F.ops field.now) (plan_of self.now)
-            number out.now)) tt }
+    // What forbids a rebuild into this buffer, over whatever field and whether or not the row is known.
+    fn check_rebuild(&self, number: usize, out: &[u8]) -> Result<(), ReceiverFault>
+        ensures { result ≡ answered (first (rebuild_front (plan_of self.now) number out.now)) tt }
     {
-        if field.size() != self.plan.size() {
-            return Err(ReceiverFault::OtherField(self.plan.size() as usize));
-        }
         if number >= self.plan.packet_count() {
             return Err(ReceiverFault::Number(number));
         }
@@ -76,12 +62,12 @@ impl Receiver {
         ensures { Answers (F.ops field.now) self.now (a_rebuild number out.old)
             (rebuild_answer result) out.new self.now }
     {
-        self.check_rebuild(field, number, out)?;
+        let over = self.over(field)?;
+        self.check_rebuild(number, out)?;
         let mut room = [0; MOST_SYMBOLS];
-        let row = &mut room[0..self.plan.row_len()];
-        if !self.write_known(field, number, row) {
-            return Err(ReceiverFault::TooFew(self.accepted()));
-        }
+        let row = over
+            .row(number, &mut room[..self.plan.row_len()])
+            .ok_or(ReceiverFault::TooFew(self.accepted()))?;
         Ok(write(&self.plan, self.job, number as u16, row, out)?)
     }
 }

@@ -1,6 +1,6 @@
-use Rattle.std.proofs.Common.{sym, arith}
-use Rattle.receiver.proofs.Shelves.{count-state}
+use Rattle.std.proofs.Common.{rules}
+use Rattle.receiver.proofs.Fields.{count-fields}
 use Rattle.receiver.proofs.receiver.Receiver.accepted.Goals as goal
 
 pub returns : goal.returns
-returns c = sym (count-state _ _ _ c.args.self.now.numbers _ (omega arith))
+returns c = search (rules, count-fields)

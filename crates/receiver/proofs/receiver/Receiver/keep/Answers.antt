@@ -1,37 +1,34 @@
-use Rattle.std.proofs.Common.{refl, arith}
-use Rattle.receiver.specs.Receivers.{plan_of}
-use Rattle.receiver.proofs.Reaches.{shelf_end}
-use Rattle.receiver.proofs.Kept.{fewer, late, early}
+use Rattle.std.proofs.Common.{rules}
+use Rattle.receiver.proofs.Kept.{fewer, late, early, on_shelf}
 use Rattle.receiver.proofs.receiver.Receiver.keep.Goals as goal
-use Rattle.receiver.proofs.receiver.Receiver.keep.Goals.{then-self-data_count, else-self-data_count}
+use Rattle.receiver.proofs.receiver.Receiver.keep.Goals.{then-not-is_settled, else-not-is_settled}
 
 pub put-requires : goal.put-requires
-put-requires c =
-    let r = c.args.self.now in
-    let h = shelf_end r.count (plan_of r).L (omega (arith, r.plan.few_data)) r.plan.few_symbols in
-    record { within = rw c.requires.fits h }
+put-requires c = search (rules, on_shelf)
 
 pub bounds-self-self : goal.bounds-self-self
-bounds-self-self c = fewer c.args.self.now (omega arith) c.args.number c.args.row.now c.requires.reaches
+bounds-self-self c = fewer c.args.self.now c.args.number c.args.row.now c.requires.reaches
 
 pub invariant_of-self : goal.invariant_of-self
-invariant_of-self c = elim c.if-self-data_count.branch [
-  | then-self-data_count w ↦ rw w.self-is (
-      let k = early c.args.self.now (omega arith) c.args.number c.args.row.now c.requires.reaches (omega arith) c.requires.fits _ w.put.ensures.leaves in
-      record { room = k.held.room; inside = k.held.inside; apart = k.held.apart; symbols = k.held.symbols; whole = k.whole })
-  | else-self-data_count w ↦ rw w.self-is (
-      let k = late c.args.self.now (omega arith) c.args.number c.args.row.now c.requires.reaches (omega arith) in
-      record { room = k.held.room; inside = k.held.inside; apart = k.held.apart; symbols = k.held.symbols; whole = k.whole })
+invariant_of-self c = elim c.if-not-is_settled.branch [
+  | then-not-is_settled w ↦ rw w.self-is (
+      let k = early c.args.self.now c.args.number c.args.row.now c.requires.reaches w.if-not-is_settled.ensures.counts c.requires.fits _ w.put.ensures.leaves in
+      let h = k.held in
+      search rules)
+  | else-not-is_settled w ↦ rw w.self-is (
+      let k = late c.args.self.now c.args.number c.args.row.now c.requires.reaches w.if-not-is_settled.ensures.counts in
+      let h = k.held in
+      search rules)
 ]
 
-pub returns : goal.returns
-returns c = elim c.if-self-data_count.branch [
-  | then-self-data_count w ↦ (
-      let k = early c.args.self.now (omega arith) c.args.number c.args.row.now c.requires.reaches (omega arith) c.requires.fits _ w.put.ensures.leaves in
-      record { answers = rw w.self-is k.many; unchanged = record { plan = refl; job = refl }; leaves = rw w.self-is k.leaves }
-      )
-  | else-self-data_count w ↦ (
-      let k = late c.args.self.now (omega arith) c.args.number c.args.row.now c.requires.reaches (omega arith) in
-      record { answers = rw w.self-is k.many; unchanged = record { plan = refl; job = refl }; leaves = rw w.self-is k.leaves }
-      )
+pub returns-clause-answers : goal.returns-clause-answers
+returns-clause-answers c = elim c.if-not-is_settled.branch [
+  | then-not-is_settled w ↦ let k = early c.args.self.now c.args.number c.args.row.now c.requires.reaches w.if-not-is_settled.ensures.counts c.requires.fits _ w.put.ensures.leaves in rw w.self-is k.many
+  | else-not-is_settled w ↦ let k = late c.args.self.now c.args.number c.args.row.now c.requires.reaches w.if-not-is_settled.ensures.counts in rw w.self-is k.many
+]
+
+pub returns-clause-leaves : goal.returns-clause-leaves
+returns-clause-leaves c = elim c.if-not-is_settled.branch [
+  | then-not-is_settled w ↦ let k = early c.args.self.now c.args.number c.args.row.now c.requires.reaches w.if-not-is_settled.ensures.counts c.requires.fits _ w.put.ensures.leaves in rw w.self-is k.leaves
+  | else-not-is_settled w ↦ let k = late c.args.self.now c.args.number c.args.row.now c.requires.reaches w.if-not-is_settled.ensures.counts in rw w.self-is k.leaves
 ]

@@ -4,7 +4,7 @@ use Rattle.code.specs.Solving.{away, slope}
 use Rattle.field.specs.Rows.{numbers}
 use Rattle.receiver.proofs.solve.weights.products_at.Given as goal
 
-abbrev pub invariant-loop-i : goal.invariant-loop-i
-invariant-loop-i g l =
+abbrev pub invariant-loop-node : goal.invariant-loop-node
+invariant-loop-node g l =
     let O = numbers (g.F.Field.ops l.field) in
-    (l.away ≡ away O (at l.nodes) l.i l.z) × (l.slope ≡ slope O (at l.nodes) l.i l.z)
+    (l.away ≡ away O (at l.nodes) l.node-index l.z) × (l.slope ≡ slope O (at l.nodes) l.node-index l.z)

@@ -1,0 +1,29 @@
+-- What the fields of every receiver say of the state that it holds. Assumes nothing.
+use Rattle.std.proofs.Common.{◌≡◌, ℕ, ◌≤◌, leb, length, take, sym, arith}
+use Rattle.code.proofs.Views.{sound_of}
+use Rattle.receiver.specs.Machine.{count, settled, heard, has}
+use Rattle.receiver.specs.Receivers.{plan_of, state_of}
+use Rattle.receiver.specs.Shelves.{shelved}
+use Rattle.receiver.specs.States.{Reached}
+use Rattle.receiver.specs.declared.receiver.Receiver.{Receiver}
+use Rattle.receiver.proofs.Reaches.{reached_of}
+use Rattle.receiver.proofs.Shelves.{heard-state, count-state}
+use Rattle.receiver.proofs.Stored.{settled_by}
+
+module _ (r : Receiver) where
+  pub few : r.count ≤ length r.numbers
+  few = omega (arith, r.room, r.plan.few_data, r.plan.few_checks, r.places)
+
+  pub reached_by : Reached (plan_of r) (state_of r)
+  reached_by =
+      reached_of (plan_of r) (sound_of r.plan) r.count r.numbers (shelved r.shelf) few r.whole
+      (record { room = r.room; inside = r.inside; apart = r.apart; symbols = r.symbols })
+
+  pub heard-fields : (n : ℕ) → heard (state_of r) n ≡ has n (take r.count r.numbers)
+  heard-fields = heard-state (plan_of r).m (plan_of r).L r.count r.numbers (shelved r.shelf) few
+
+  pub count-fields : count (state_of r) ≡ r.count
+  count-fields = count-state (plan_of r).m (plan_of r).L r.count r.numbers (shelved r.shelf) few
+
+  pub settled-fields : settled (plan_of r) (state_of r) ≡ leb (plan_of r).m r.count
+  settled-fields = sym (settled_by (plan_of r) r.count r.numbers (shelved r.shelf))
