@@ -4,7 +4,7 @@ use Rattle.std.specs.Option.{option_map}
 use Rattle.std.proofs.lemmas.List.{length-drop}
 use Rattle.std.proofs.lemmas.Bool.{eqb-true, lt-ltb, ltb-true, le-ltb}
 use Rattle.checks.specs.Checks.{first, answered, lowest, too_large}
-use Rattle.checks.proofs.Order.{none_some, unless_none, unless_true, unless_false, first_none, skip, stop, mapped_none, answered_ok}
+use Rattle.checks.proofs.Order.{unless_none, unless_true, unless_false, first_none, skip, stop, mapped_none, answered_ok}
 use Rattle.code.specs.Plans.{PlanView}
 use Rattle.packet.specs.Bytes.{word, ReadFrom}
 use Rattle.packet.specs.Layout.{header_length, number_at, Headed, carried}
@@ -23,7 +23,7 @@ module _ (p : PlanView) (j : Job) (bs : List ℕ) where
   here = first (front_checks p j bs)
 
   refused : (f : ReceiverFault) (row : List ℕ) → here ≡ Some f → Examined p j bs (Err f) row
-  refused f row e = record { answers = sym (ap (λ x. answered x (word bs number_at)) e); reads = λ n. absurd (none_some here f n e) }
+  refused f row e = record { answers = sym (ap (λ x. answered x (word bs number_at)) e); reads = λ n. absurd (cc (n, e)) }
 
   pub not_opened : (row : List ℕ) (f : PacketFault) → opening bs ≡ Some f → Examined p j bs (Err (InPacket f)) row
   not_opened row f e = refused (InPacket f) row (stop _ _ _ (ap (option_map InPacket) e))

@@ -3,7 +3,6 @@ use Rattle.std.proofs.Common.{◌≡◌, ℕ, false, eqb, List, [], ◌∷◌, �
 use Rattle.std.specs.List.{AllByRecursion}
 use Rattle.std.proofs.ByRecursion.{All-map}
 use Rattle.std.proofs.lemmas.Bool.{cases_Bool, eqb-true, eqb-false, or_parts}
-use Rattle.checks.proofs.Order.{none_some}
 use Rattle.code.specs.Rows.{Packet}
 use Rattle.code.specs.Settles.{New}
 use Rattle.receiver.specs.Machine.{has, find}
@@ -22,14 +21,14 @@ has_not n (k ∷ ks) h =
 pub new_find : (n : ℕ) (ks : List Packet) → find n ks ≡ None → New n ks
 new_find n [] e = tt
 new_find n (k ∷ ks) e = elim (cases_Bool (eqb k.number n)) [
-  | inl t ↦ absurd (none_some _ _ (rw t at e) refl)
+  | inl t ↦ absurd (cc (rw t at e))
   | inr f ↦ (eqb-false _ n f, new_find n ks (rw f at e))
 ]
 
 -- what holds of each packet holds of the one that is found
 pub found : (P : ℕ → List ℕ → Type 0) (n : ℕ) (ks : List Packet) (y : List ℕ) → find n ks ≡ Some y
     → AllByRecursion (λ k. P k.number k.row) ks → P n y
-found P n [] y e h = absurd (none_some _ y refl e)
+found P n [] y e h = absurd cc
 found P n (k ∷ ks) y e h = elim (cases_Bool (eqb k.number n)) [
   | inl t ↦ (
       let here : ◌≡◌ {A = Option (List ℕ)} (Some k.row) (Some y) = rw t at e in

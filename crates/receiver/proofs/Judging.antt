@@ -18,7 +18,7 @@ use Rattle.receiver.proofs.Stored.{packet_is}
 -- a check behind others decides if none of them does
 pub first_stop : {A : Type 0} (os : List (Option A)) (x : Option A) (f : A) → first os ≡ Some f → first (os ++ x ∷ []) ≡ Some f
 first_stop [] None f e = e
-first_stop [] (Some a) f e = absurd (let z : ◌≡◌ {A = ℕ} 0 1 = cc in omega arith)
+first_stop [] (Some a) f e = cc
 first_stop (None ∷ os) x f e = first_stop os x f e
 first_stop (Some a ∷ os) x f e = e
 
@@ -26,7 +26,7 @@ pub first-last : {A : Type 0} (os : List (Option A)) (x : Option A) → first os
 first-last [] None e = refl
 first-last [] (Some a) e = refl
 first-last (None ∷ os) x e = first-last os x e
-first-last (Some a ∷ os) x e = absurd (let z : ◌≡◌ {A = ℕ} 0 1 = cc in omega arith)
+first-last (Some a ∷ os) x e = cc
 
 module _ (o : Ops) (p : PlanView) (j : Job) (s : State) (bs : List ℕ) where
   refused : (f : ReceiverFault) (row : List ℕ) → ((M : List ℕ) → first (offer_checks o p j M s bs) ≡ Some f) → Judged o p j s bs (Err f) row

@@ -5,7 +5,6 @@ use Rattle.std.proofs.ByRecursion.{All-weaker}
 use Rattle.std.proofs.lemmas.Bool.{both_ways}
 use Rattle.checks.specs.Checks.{answered, lowest, differs}
 use Rattle.checks.proofs.Lowest.{same_rows, no_difference}
-use Rattle.checks.proofs.Order.{none_some}
 use Rattle.code.specs.Plans.{PlanView}
 use Rattle.code.specs.Rows.{Packet, row, Explains}
 use Rattle.code.specs.Settles.{Good, New}
@@ -24,8 +23,8 @@ module _ (o : Ops) (p : PlanView) (M : List ℕ) (s : State) (n : ℕ) where
     where
       go : (x : Option (List ℕ)) → find n s.stored ≡ x → (b : Bool) → settled p s ≡ b
           → or_else x (cond b (Some (row o p M n)) None) ≡ None → New n s.stored × (settled p s ≡ false)
-      go (Some y) f b e h = absurd (none_some _ y h refl)
-      go None f true e h = absurd (none_some _ _ h refl)
+      go (Some y) f b e h = absurd cc
+      go None f true e h = absurd cc
       go None f false e h = (new_find n s.stored f, e)
 
   pub known_some : (y : List ℕ) → known o p M s n ≡ Some y
@@ -38,7 +37,7 @@ module _ (o : Ops) (p : PlanView) (M : List ℕ) (s : State) (n : ℕ) where
           → (find n s.stored ≡ Some y) ⊎ (New n s.stored × (settled p s ≡ true) × (row o p M n ≡ y))
       go (Some x) f b e h = inl (f ∙ h)
       go None f true e h = inr (new_find n s.stored f, e, cc)
-      go None f false e h = absurd (none_some _ y refl h)
+      go None f false e h = absurd cc
 
   -- a known row is that of every message that fits what is stored, if that is the message
   pub known_right : (y : List ℕ) → known o p M s n ≡ Some y
@@ -74,9 +73,9 @@ against_none b k (Some y) long e = go b (lowest (differs y k.row) (length k.row)
   where
     go : (b : Bool) (d : Option ℕ) → lowest (differs y k.row) (length k.row) ≡ d → judged b k.number d ≡ None
         → (◌≡◌ {A = Option (List ℕ)} (Some y) None) ⊎ ((Some y ≡ Some k.row) × (b ≡ false))
-    go true (Some i) f h = absurd (none_some _ _ h refl)
-    go false (Some i) f h = absurd (none_some _ _ h refl)
-    go true None f h = absurd (none_some _ _ h refl)
+    go true (Some i) f h = absurd cc
+    go false (Some i) f h = absurd cc
+    go true None f h = absurd cc
     go false None f h = inr (ap Some (same_rows y k.row (length k.row) (long y refl) refl f), refl)
 
 -- the same row does not contradict
@@ -84,8 +83,8 @@ pub against_same : (b : Bool) (k : Packet) → against b k (Some k.row) ≡ judg
 against_same b k = ap (judged b k.number) (no_difference k.row (length k.row))
 
 pub judged_none : (b : Bool) (n place : ℕ) → judged b n None ≡ Some (Contradicts place) → ⊥
-judged_none true n place e = let z : ◌≡◌ {A = ℕ} 0 1 = cc in omega arith
-judged_none false n place e = none_some _ _ refl e
+judged_none true n place e = cc
+judged_none false n place e = cc
 
 -- what the last check finds of the packet k where its row is known to be y
 pub judges_known : (o : Ops) (p : PlanView) (s : State) (k : Packet) (y : List ℕ) → Knows o p s k.number (Some y) → length y ≡ length k.row

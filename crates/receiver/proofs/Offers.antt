@@ -24,10 +24,6 @@ use Rattle.receiver.proofs.Passing.{decided-view, Passed, passed, only-last}
 use Rattle.receiver.proofs.Readings.{length_less}
 use Rattle.receiver.proofs.Picked.{at_least_length, picked}
 
--- a refusal is no count
-not_counts : (a : Answer) (f : ReceiverFault) (l : ℕ) → a ≡ refuses f → a ≡ counts l → ⊥
-not_counts a f l p q = let z : ◌≡◌ {A = ℕ} 0 1 = cc in omega arith
-
 -- m accepted packets are the message M's, so that it fits all of them
 module _ (o : Ops) (lawful : Lawful o) (p : PlanView) (sound : Sound p) (s : State) (ks : List Packet) (inv : Inv o p s ks)
     (M : List ℕ) (message : Message p M) (many : AtLeast p.m (Fits o p M) ks) where
@@ -98,7 +94,7 @@ module _ (o : Ops) (lawful : Lawful o) (p : PlanView) (sound : Sound p) (j : Job
   offered_right = elim (decided-view (first (offer_checks o p j step.M s bs)) bs s _ a after t step.ruled) [
     | inl q ↦ record {
       accepts = (
-        (λ r. absurd (not_counts a _ _ q.2 r.1)),
+        (λ r. absurd (cc (q.2, r.1))),
         λ r.
             let (n, l, e, new) = r in
             absurd (none_some _ _ (ours n l e ∙ ap (λ b. judged b n None) (new_unheard o lawful p sound s ks inv n new)) q.1),
@@ -110,6 +106,6 @@ module _ (o : Ops) (lawful : Lawful o) (p : PlanView) (sound : Sound p) (j : Job
     }
     | inr q ↦ record {
       accepts = ((λ r. theirs q.0), λ r. (_, q.1));
-      agrees = λ n place l e r. not_counts a _ _ r q.1;
+      agrees = λ n place l e r. cc (r, q.1);
     }
   ]

@@ -14,10 +14,6 @@ use Rattle.receiver.specs.declared.fault.ReceiverFault.{ReceiverFault}
 use Rattle.receiver.proofs.Invariant.{Inv, all-stored, stored_one, explains_stored}
 use Rattle.receiver.proofs.Passing.{decided-view}
 
--- a refusal is no answer
-not_filled : (a : Answer) (f : ReceiverFault) → a ≡ refuses f → a ≡ filled → ⊥
-not_filled a f p q = let z : ◌≡◌ {A = ℕ} 0 1 = cc in omega arith
-
 module _ (o : Ops) (lawful : Lawful o) (p : PlanView) (sound : Sound p) (j : Job) (s t : State) (ks : List Packet) (inv : Inv o p s ks) where
   pub length_less : settled p s ≡ false → length ks < p.m
   length_less less = omega (arith, ap length (all-stored o lawful p sound s ks inv less), leb-false _ _ less)
@@ -25,7 +21,7 @@ module _ (o : Ops) (lawful : Lawful o) (p : PlanView) (sound : Sound p) (j : Job
   module _ (buffer : List ℕ) (a : Answer) (after : List ℕ) (step : Step o p j s (read buffer) a after t) where
     read_passed : a ≡ filled → (o.size ≡ p.q) × (settled p s ≡ true) × (after ≡ step.M)
     read_passed e = elim (decided-view (first (read_checks o p j step.M s buffer)) buffer s _ a after t step.ruled) [
-      | inl r ↦ absurd (not_filled a _ r.2 e)
+      | inl r ↦ absurd (cc (r.2, e))
       | inr r ↦ (
           let h = first_none (read_checks o p j step.M s buffer) r.0 in
           (eqb-true _ _ (unless_none _ _ h.0), unless_none _ _ h.1.1.0, r.2)

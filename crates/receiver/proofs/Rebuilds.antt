@@ -18,12 +18,8 @@ use Rattle.receiver.proofs.Known.{known_none, known_right}
 use Rattle.receiver.proofs.Passing.{decided-view}
 use Rattle.receiver.proofs.Readings.{length_less}
 
--- a refusal is no answer
-not_wrote : (a : Answer) (f : ReceiverFault) (l : ℕ) → a ≡ refuses f → a ≡ wrote l → ⊥
-not_wrote a f l p q = let z : ◌≡◌ {A = ℕ} 0 1 = cc in omega arith
-
 value_some : (x : Option (List ℕ)) → is_some x ≡ true → x ≡ Some (unwrap_or x [])
-value_some None e = let z : ◌≡◌ {A = ℕ} 0 1 = cc in absurd (omega arith)
+value_some None e = cc
 value_some (Some y) e = refl
 
 module _ (o : Ops) (lawful : Lawful o) (p : PlanView) (sound : Sound p) (j : Job) (s t : State) (ks : List Packet) (inv : Inv o p s ks)
@@ -34,7 +30,7 @@ module _ (o : Ops) (lawful : Lawful o) (p : PlanView) (sound : Sound p) (j : Job
   rebuild_passed : (l : ℕ) → a ≡ wrote l → (o.size ≡ p.q) × (known o p step.M s n ≡ Some known_row)
       × (after ≡ laid p j n known_row ++ drop (packet_length p) buffer)
   rebuild_passed l e = elim (decided-view (first (rebuild_checks o p j step.M s n buffer)) buffer s _ a after t step.ruled) [
-    | inl r ↦ absurd (not_wrote a _ l r.2 e)
+    | inl r ↦ absurd (cc (r.2, e))
     | inr r ↦ (
         let h = first_none (rebuild_checks o p j step.M s n buffer) r.0 in
         (eqb-true _ _ (unless_none _ _ h.0), value_some _ (unless_none _ _ h.1.1.1.0), r.2)

@@ -37,7 +37,7 @@ module _ (o : Ops) (lawful : Lawful o) (p : PlanView) (sound : Sound p) (j : Job
     made = record { call = c; answer = out.answer; after = out.after }
 
     only_more : (es : List Event) → Only out.state cs es → Only s (c ∷ cs) (made ∷ es)
-    only_more es only [] v e run = let z : ◌≡◌ {A = ℕ} 0 1 = cc in absurd (omega arith)
+    only_more es only [] v e run = cc
     only_more es only (f ∷ fs) v e (t, step, run) =
         let call : f.call ≡ c = cc in
         let calls : map (λ e. e.call) fs ≡ cs = cc in
@@ -54,7 +54,7 @@ module _ (o : Ops) (lawful : Lawful o) (p : PlanView) (sound : Sound p) (j : Job
     where
       only : Only s [] []
       only [] v e run = refl
-      only (f ∷ fs) v e run = let z : ◌≡◌ {A = ℕ} 0 1 = cc in absurd (omega arith)
+      only (f ∷ fs) v e run = cc
   run_of (c ∷ cs) s reached =
       let (out, step, next, one) = settles o lawful p sound j s reached c in
       let (es, u, calls, run, only) = run_of cs out.state next in
