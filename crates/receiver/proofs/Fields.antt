@@ -19,11 +19,11 @@ module _ (r : Receiver) where
       reached_of (plan_of r) (sound_of r.plan) r.count r.numbers (shelved r.shelf) few r.whole
       (record { room = r.room; inside = r.inside; apart = r.apart; symbols = r.symbols })
 
-  pub heard-fields : (n : ℕ) → heard (state_of r) n ≡ has n (take r.count r.numbers)
-  heard-fields = heard-state (plan_of r).m (plan_of r).L r.count r.numbers (shelved r.shelf) few
+  pub heard_fields : (n : ℕ) → heard (state_of r) n ≡ has n (take r.count r.numbers)
+  heard_fields = heard-state (plan_of r).m (plan_of r).L r.count r.numbers (shelved r.shelf) few
 
-  pub count-fields : count (state_of r) ≡ r.count
-  count-fields = count-state (plan_of r).m (plan_of r).L r.count r.numbers (shelved r.shelf) few
+  pub count_fields : count (state_of r) ≡ r.count
+  count_fields = count-state (plan_of r).m (plan_of r).L r.count r.numbers (shelved r.shelf) few
 
-  pub settled-fields : settled (plan_of r) (state_of r) ≡ leb (plan_of r).m r.count
-  settled-fields = sym (settled_by (plan_of r) r.count r.numbers (shelved r.shelf))
+  pub settled_fields : settled (plan_of r) (state_of r) ≡ leb (plan_of r).m r.count
+  settled_fields = sym (settled_by (plan_of r) r.count r.numbers (shelved r.shelf))

@@ -1,12 +1,20 @@
--- Packets looked for by their numbers, and the parts of a list. Assumes nothing.
+-- Numbers and packets looked for, and the parts of a list. Assumes nothing.
 use Rattle.std.proofs.Common.{◌≡◌, ℕ, false, eqb, List, [], ◌∷◌, ◌++◌, map, Some, None, Option, refl, inl, inr}
 use Rattle.std.specs.List.{AllByRecursion}
 use Rattle.std.proofs.ByRecursion.{All-map}
-use Rattle.std.proofs.lemmas.Bool.{cases_Bool, eqb-true, eqb-false, or_parts}
+use Rattle.std.proofs.lemmas.Bool.{cases_Bool, eqb-true, eqb-false, ne_eqb, or_parts, or_from}
 use Rattle.code.specs.Rows.{Packet}
 use Rattle.code.specs.Settles.{New}
 use Rattle.receiver.specs.Machine.{has, find}
-use Rattle.receiver.proofs.Numbers.{has_none}
+
+-- none of the numbers is n
+has_none : (n : ℕ) (xs : List ℕ) → AllByRecursion (λ x. ¬ (x ≡ n)) xs → has n xs ≡ false
+has_none n [] h = refl
+has_none n (x ∷ xs) h = or_from _ _ (ne_eqb x n h.0) (has_none n xs h.1)
+
+pub none_has : (n : ℕ) (xs : List ℕ) → has n xs ≡ false → AllByRecursion (λ x. ¬ (x ≡ n)) xs
+none_has n [] h = tt
+none_has n (x ∷ xs) h = let r = or_parts (eqb x n) (has n xs) h in (eqb-false x n r.0, none_has n xs r.1)
 
 -- n is the number of none of the packets
 pub not_has : (n : ℕ) (ks : List Packet) → New n ks → has n (map (λ k. k.number) ks) ≡ false

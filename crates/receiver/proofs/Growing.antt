@@ -12,7 +12,7 @@ use Rattle.field.specs.Field.{Ops}
 use Rattle.receiver.specs.Machine.{State, count, settled, keeping, has, heard, known, against}
 use Rattle.receiver.specs.States.{numbers_of, Unlike, Reached}
 use Rattle.receiver.proofs.Known.{known_none, known-long, against_none}
-use Rattle.receiver.proofs.Numbers.{none_has}
+use Rattle.receiver.proofs.Finding.{none_has}
 use Rattle.receiver.proofs.Unlike.{at_most, unlike_push}
 
 module _ (p : PlanView) (s : State) (reached : Reached p s) where

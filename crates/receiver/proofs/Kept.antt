@@ -9,7 +9,7 @@ use Rattle.receiver.specs.Receivers.{state, plan_of, state_of, kept}
 use Rattle.receiver.specs.Shelves.{shelved, row_on, with_row}
 use Rattle.receiver.specs.States.{Reached}
 use Rattle.receiver.specs.declared.receiver.Receiver.{Receiver}
-use Rattle.receiver.proofs.Fields.{count-fields}
+use Rattle.receiver.proofs.Fields.{count_fields}
 use Rattle.receiver.proofs.Reaches.{Held, held_of, shelf_end}
 use Rattle.receiver.proofs.Shelves.{count-state}
 use Rattle.receiver.proofs.Stored.{keep_room, kept_late, kept-early, row_below, row_here, length-with_row}
@@ -33,7 +33,7 @@ module _ (r : Receiver) (n : ℕ) (row : List ℕ) (reached : Reached (plan_of r
     pub many : r.count + 1 ≡ count (state p.m p.L (r.count + 1) numbers xs)
 
   pub fewer : r.count < 128
-  fewer = keep_room p sound (state_of r) _ r.count (count-fields r) reached
+  fewer = keep_room p sound (state_of r) _ r.count (count_fields r) reached
 
   from_state : (xs : List ℕ) → length xs ≡ 8192 → state p.m p.L (r.count + 1) numbers xs ≡ kept r n row → Kept xs
   from_state xs whole is =

@@ -15,7 +15,7 @@ use Rattle.receiver.specs.Receivers.{packet_at, state, plan_of, state_of}
 use Rattle.receiver.specs.Shelves.{shelved, row_on}
 use Rattle.receiver.specs.Solves.{packets, Given, Lacks, First, RowOf}
 use Rattle.receiver.specs.declared.receiver.Receiver.{Receiver}
-use Rattle.receiver.proofs.Fields.{few, settled-fields}
+use Rattle.receiver.proofs.Fields.{few, settled_fields}
 use Rattle.receiver.proofs.Known.{known_is}
 use Rattle.receiver.proofs.Reaches.{shelf_end}
 use Rattle.receiver.proofs.Stored.{same_map, packet_is, row_same}
@@ -60,7 +60,7 @@ module _ (r : Receiver) where
   -- m are accepted: the first m numbers, and the front of the shelf
   module _ (full : settled p (state_of r) ≡ true) where
     many : p.m ≤ k
-    many = leb-true p.m k (sym (settled-fields r) ∙ full)
+    many = leb-true p.m k (sym (settled_fields r) ∙ full)
 
     fit : p.m * p.L ≤ length shelf
     fit = omega (arith, mul-le p.m p.L 64 128 r.plan.few_data r.plan.few_symbols, r.whole)
@@ -78,9 +78,9 @@ module _ (r : Receiver) where
           rw (get_or-take (p.m * p.L) shelf i 0 h) (r.symbols i (rw all h));
     }
 
-    pub packets-stored : packets p (take p.m r.numbers) (take (p.m * p.L) shelf) ≡ (state_of r).stored
+    pub packets_stored : packets p (take p.m r.numbers) (take (p.m * p.L) shelf) ≡ (state_of r).stored
     unfolding state
-    packets-stored =
+    packets_stored =
         let all : min k p.m ≡ p.m = omega (arith, many) in
         same_map (packet_at p.L r.numbers shelf) _ p.m (λ t h. packet_is _ _ _ _ (get_or-take p.m r.numbers t 0 h)
         (row_same p.m p.L t h (take (p.m * p.L) shelf) shelf (take-take (p.m * p.L) (p.m * p.L) shelf (omega arith))))
@@ -89,7 +89,7 @@ module _ (r : Receiver) where
   -- fewer are accepted: what is stored is known, and nothing else
   module _ (less : settled p (state_of r) ≡ false) (o : Ops) (n : ℕ) where
     all-stored : min k p.m ≡ k
-    all-stored = omega (arith, leb-false p.m k (sym (settled-fields r) ∙ less))
+    all-stored = omega (arith, leb-false p.m k (sym (settled_fields r) ∙ less))
 
     packet_0 : Packet
     packet_0 = packet_at p.L r.numbers shelf 0

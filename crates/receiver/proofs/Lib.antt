@@ -1,4 +1,3 @@
-pub mod Numbers
 pub mod Shelves
 pub mod Reaches
 pub mod Stored

@@ -29,6 +29,7 @@ impl Receiver {
     }
 
     // Whether the number is accepted.
+    #[tactic(auto, using(crate::proofs::Fields::heard_fields))]
     pub(crate) fn is_accepted(&self, number: u16) -> bool
         ensures { result ≡ heard (state_of self.now) number }
     {
@@ -36,6 +37,7 @@ impl Receiver {
     }
 
     // Whether m are accepted, so that every row is known.
+    #[tactic(auto, using(crate::proofs::Fields::settled_fields))]
     pub(crate) fn is_settled(&self) -> bool
         ensures answers { result ≡ settled (plan_of self.now) (state_of self.now) }
         ensures counts { result ≡ nat_le (plan_of self.now).m self.now.count }
@@ -44,6 +46,7 @@ impl Receiver {
     }
 
     // How many are accepted.
+    #[tactic(auto, using(crate::proofs::Fields::count_fields))]
     pub(crate) fn accepted(&self) -> usize
         ensures { result ≡ count_of (state_of self.now) }
     {

@@ -42,6 +42,7 @@ impl Receiver {
 
 impl<'a, F: Field> Over<'a, F> {
     // Solves for rows from the m packets that are kept.
+    #[tactic(auto, using(crate::proofs::Knowing::given_of, crate::proofs::Knowing::packets_stored))]
     pub(super) fn solver(&self) -> Solver<'a, F>
         requires { settled (plan_of self.now.receiver.now) (state_of self.now.receiver.now) ≡ true }
         ensures fields { result.field.now ≡ self.now.field.now }
@@ -75,6 +76,7 @@ impl<'a, F: Field> Over<'a, F> {
     }
 
     // The last check of an offer: the packet against the row that is known of its number.
+    #[tactic(auto, using(crate::proofs::Known::judges_known))]
     pub(super) fn compare(&self, number: u16, row: &[u16]) -> Result<(), ReceiverFault>
         requires within { number < (plan_of self.now.receiver.now).m + (plan_of self.now.receiver.now).r }
         requires fits { length row.now ≡ (plan_of self.now.receiver.now).L }
