@@ -1,6 +1,7 @@
 // A plan: how many packets of which length, over a field of which size, and the packets' nodes.
 ghost use Rattle.std.specs.Prelude.{◌≡◌, ◌+◌, ◌≤◌, length};
 ghost use Rattle.code.specs.Nodes.{Elements, Apart};
+
 pub mod making;
 pub mod prints;
 pub mod reads;
