@@ -1,67 +1,45 @@
 -- A word that is written is read as what it was written of. Assumes nothing.
-use Rattle.std.proofs.Common.{◌≡◌, ℕ, ◌+◌, ◌*◌, ◌/◌, ◌%◌, ◌<◌, List, [], ◌∷◌, ◌++◌, get_or, Some, Option, refl, ap, ◌∙◌, arith, w8, w16, Fits}
-use Rattle.std.proofs.ByRecursion.{All-from_get_or}
+use Rattle.std.proofs.Common.{◌≡◌, ℕ, ◌<◌, ◌≤◌, List, [], ◌∷◌, ◌++◌, length, take, drop, false, cond, eqb, Some, Option, refl, subst, ap, ◌∙◌, arith, length-append}
+use Rattle.std.proofs.Math.Seq.{take-append_seam, drop-append_seam}
+use Rattle.std.proofs.lemmas.List.{take_all}
 use Rattle.std.proofs.lemmas.Bool.Decides.{nat_tests}
 use Rattle.std.specs.List.{flat_map, AllByRecursion}
-use Rattle.std.specs.Option.{option_map}
-use Rattle.dialog.specs.Cells.{digit, letter, chained, byte, symbol, paired, dashed, joined_bytes, bytes, symbols, byte_text, symbol_text, text, Spells}
+use Rattle.dialog.specs.Cells.{before, dashed, text, Spells, Lawful}
 
-digit-letter : (d : ℕ) → d < 16 → digit (letter d) ≡ Some d
-digit-letter d h = grind (arith, nat_tests)
+-- a word of two characters or more is read by f
+dashed_two : {A : Type 0} (f : List ℕ → Option (List A)) (word : List ℕ) → 2 ≤ length word → dashed f word ≡ f word
+dashed_two f word h = grind (arith, nat_tests)
 
-byte_letters : (b : ℕ) → b < 256 → byte (letter (b / 16)) (letter (b % 16)) ≡ Some b
-byte_letters b h =
-    let whole : b / 16 * 16 + b % 16 ≡ b = omega arith in
-    ap (λ o. chained o (λ x. option_map (λ y. x * 16 + y) (digit (letter (b % 16))))) (digit-letter (b / 16) (omega arith))
-    ∙ ap (option_map (λ y. b / 16 * 16 + y)) (digit-letter (b % 16) (omega arith))
-    ∙ ap Some whole
-
--- a byte's digits in front are read as that byte
-paired-byte : (b : ℕ) (cs : List ℕ) → b < 256 → paired byte (byte_text b ++ cs) ≡ option_map (λ bs. b ∷ bs) (paired byte cs)
-paired-byte b cs h = ap (λ o. chained o (λ v. option_map (λ vs. v ∷ vs) (paired byte cs))) (byte_letters b h)
-
-paired-bytes : (bs : List ℕ) → AllByRecursion (λ b. b < 256) bs → paired byte (flat_map byte_text bs) ≡ Some bs
-paired-bytes [] h = refl
-paired-bytes (b ∷ bs) h = paired-byte b (flat_map byte_text bs) h.0 ∙ ap (option_map (λ vs. b ∷ vs)) (paired-bytes bs h.1)
-
--- a word of two characters or more is no dash
-dashed_two : (f : List ℕ → Option (List ℕ)) (c d : ℕ) (cs : List ℕ) → dashed f (c ∷ d ∷ cs) ≡ f (c ∷ d ∷ cs)
-dashed_two f c d cs = grind (arith, nat_tests)
-
-text_some : (f : ℕ → List ℕ) (x : ℕ) (xs : List ℕ) → text f (x ∷ xs) ≡ flat_map f (x ∷ xs)
+text_some : {A : Type 0} (f : A → List ℕ) (x : A) (xs : List A) → text f (x ∷ xs) ≡ flat_map f (x ∷ xs)
 text_some f x xs = grind (arith, nat_tests)
 
-pub bytes_back : (bs : List ℕ) → AllByRecursion (λ b. b < 256) bs → bytes (text byte_text bs) ≡ Some bs
-bytes_back [] h = refl
-bytes_back (b ∷ bs) h = ap bytes (text_some byte_text b bs) ∙ dashed_two (paired byte) (letter (b / 16)) (letter (b % 16)) (flat_map byte_text bs) ∙ paired-bytes (b ∷ bs) h
+module _ {A : Type 0} (n : ℕ) (one : List ℕ → Option A) (row : List ℕ → Option (List A)) (written : A → List ℕ) (l : Lawful n one row written) where
+  -- x is read as it is written
+  abbrev Back : A → Type 0
+  Back x = one (written x) ≡ Some x
 
--- the high and the low byte of each symbol
-abbrev halves : List ℕ → List ℕ
-halves [] = []
-halves (s ∷ ss) = s / 256 ∷ s % 256 ∷ halves ss
+  -- a cell's digits in front are read as that cell
+  row_written : (x : A) (digits : List ℕ) → Back x → row (written x ++ digits) ≡ before (Some x) (row digits)
+  row_written x digits h =
+      let some : 0 < length (written x ++ digits) = simp length-append (omega (arith, l.digits x, l.two_at_least)) in
+      let front : take n (written x ++ digits) ≡ written x = rw (← l.digits x) (take-append_seam (written x) digits) in
+      let behind : drop n (written x ++ digits) ≡ digits = rw (← l.digits x) (drop-append_seam (written x) digits) in
+      l.row_more (written x ++ digits) some ∙ rw (front, behind, h)
 
-paired-halves : (ss : List ℕ) → paired symbol (halves ss) ≡ Some ss
-paired-halves [] = refl
-paired-halves (s ∷ ss) =
-    let whole : s / 256 * 256 + s % 256 ≡ s = omega arith in
-    ap (option_map (λ vs. (s / 256 * 256 + s % 256) ∷ vs)) (paired-halves ss) ∙ ap (λ v. Some (v ∷ ss)) whole
+  row_text : (xs : List A) → AllByRecursion Back xs → row (flat_map written xs) ≡ Some xs
+  row_text [] h = l.row_none
+  row_text (x ∷ xs) h = row_written x (flat_map written xs) h.0 ∙ ap (before (Some x)) (row_text xs h.1)
 
-paired-symbols : (ss : List ℕ) → AllByRecursion (λ s. s < 65536) ss → paired byte (flat_map symbol_text ss) ≡ Some (halves ss)
-paired-symbols [] h = refl
-paired-symbols (s ∷ ss) h =
-    paired-byte (s / 256) (byte_text (s % 256) ++ flat_map symbol_text ss) (omega (arith, h.0))
-    ∙ ap (option_map (λ vs. s / 256 ∷ vs)) (paired-byte (s % 256) (flat_map symbol_text ss) (omega arith) ∙ ap (option_map (λ vs. s % 256 ∷ vs)) (paired-symbols ss h.1))
+  word_back : (xs : List A) → AllByRecursion Back xs → dashed row (text written xs) ≡ Some xs
+  word_back [] h = refl
+  word_back (x ∷ xs) h =
+      let long : 2 ≤ length (flat_map written (x ∷ xs)) = simp length-append (omega (arith, l.digits x, l.two_at_least)) in
+      rw text_some (dashed_two row (flat_map written (x ∷ xs)) long ∙ row_text (x ∷ xs) h)
 
-pub symbols-back : (ss : List ℕ) → AllByRecursion (λ s. s < 65536) ss → symbols (text symbol_text ss) ≡ Some ss
-symbols-back [] h = refl
-symbols-back (s ∷ ss) h =
-    ap symbols (text_some symbol_text s ss) ∙ dashed_two joined_bytes (letter (s / 256 / 16)) (letter (s / 256 % 16)) (byte_text (s % 256) ++ flat_map symbol_text ss)
-    ∙ ap (λ o. chained o (paired symbol)) (paired-symbols (s ∷ ss) h) ∙ paired-halves (s ∷ ss)
-
-pub bytes-spelled : (bs word : List ℕ) → ((i : ℕ) → Fits w8 (get_or bs i 0)) → word ≡ text byte_text bs → Spells bytes byte_text bs word
-bytes-spelled bs word h e =
-    record { spelled = e; back = ap bytes e ∙ bytes_back bs (All-from_get_or (λ b. b < 256) bs 0 (λ i _. omega (arith, h i))) }
-
-pub symbols-spelled : (ss word : List ℕ) → ((i : ℕ) → Fits w16 (get_or ss i 0)) → word ≡ text symbol_text ss → Spells symbols symbol_text ss word
-symbols-spelled ss word h e =
-    record { spelled = e; back = ap symbols e ∙ symbols-back ss (All-from_get_or (λ s. s < 65536) ss 0 (λ i _. omega (arith, h i))) }
+  -- once all cells are written
+  pub all_spelled : (xs : List A) (i : ℕ) (word : List ℕ) → length xs ≤ i → false ≡ eqb (length xs) 0 →
+      (word ≡ flat_map written (take i xs)) × AllByRecursion Back (take i xs) → Spells (dashed row) written xs word
+  all_spelled xs i word whole some h =
+      let all = take_all i xs whole in
+      let spelled : word ≡ text written xs = h.0 ∙ ap (flat_map written) all ∙ ap (λ b. cond b (45 ∷ []) (flat_map written xs)) some in
+      record { spelled = spelled; back = ap (dashed row) spelled ∙ word_back xs (subst (AllByRecursion Back) all h.1) }

@@ -1,4 +1,1 @@
 pub mod Back
-pub mod Numbers
-pub mod Pairing
-pub mod Writing
