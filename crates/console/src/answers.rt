@@ -1,5 +1,5 @@
 // What the console answers: one line to each call.
-use checks::fault::Fault;
+use crate::reasons::Refusal;
 use code::plan::Plan;
 use dialog::hex::{bytes_text, symbols_text};
 use std::io;
@@ -14,21 +14,13 @@ pub enum Answer {
     // The length of a packet, and the buffer that it was written into.
     Packet(usize, Vec<u8>),
     Nodes(Plan),
-    Number(u16),
-    Nothing,
-    // The fault, and whether a buffer of the call changed all the same.
-    Refused(Fault, bool),
-    Error(&'static str),
+    Missing(Option<u16>),
 }
 
-fn say_symbols(rt: &HostRuntime, symbols: &[u16]) -> io::Result<()> {
-    let text = symbols_text(rt.alloc(), symbols)?;
-    rt.stdout().write_all(text.as_slice())
-}
-
-fn say_bytes(rt: &HostRuntime, bytes: &[u8]) -> io::Result<()> {
-    let text = bytes_text(rt.alloc(), bytes)?;
-    rt.stdout().write_all(text.as_slice())
+// Ends a line by a word of hex.
+fn end_by(rt: &HostRuntime, word: Vec<u8>) -> io::Result<()> {
+    rt.stdout().write_all(word.as_slice())?;
+    println!(rt; "")
 }
 
 fn say_plan(rt: &HostRuntime, plan: &Plan) -> io::Result<()> {
@@ -38,44 +30,35 @@ fn say_plan(rt: &HostRuntime, plan: &Plan) -> io::Result<()> {
     let q = plan.size();
     let (data, checks) = plan.nodes().split_at(m);
     print!(rt; "= ok {m} {r} {len} {q} ")?;
-    say_symbols(rt, data)?;
+    let data = symbols_text(rt.alloc(), data)?;
+    rt.stdout().write_all(data.as_slice())?;
     print!(rt; " ")?;
-    say_symbols(rt, checks)?;
-    println!(rt; "")
-}
-
-fn say_fault(rt: &HostRuntime, fault: Fault, altered: bool) -> io::Result<()> {
-    if altered {
-        println!(rt; "= fault {fault} altered")
-    } else {
-        println!(rt; "= fault {fault}")
-    }
+    end_by(rt, symbols_text(rt.alloc(), checks)?)
 }
 
 // Writes the line of an answer.
-pub fn say(rt: &HostRuntime, answer: &Answer) -> io::Result<()> {
+pub fn say(rt: &HostRuntime, answer: Result<Answer, Refusal>) -> io::Result<()> {
     match answer {
-        Answer::Done => println!(rt; "= ok"),
-        Answer::Count(count) => println!(rt; "= ok {count}"),
-        Answer::Symbols(symbols) => {
+        Ok(Answer::Done) => println!(rt; "= ok"),
+        Ok(Answer::Count(count)) => println!(rt; "= ok {count}"),
+        Ok(Answer::Symbols(symbols)) => {
             print!(rt; "= ok ")?;
-            say_symbols(rt, symbols.as_slice())?;
-            println!(rt; "")
+            end_by(rt, symbols_text(rt.alloc(), symbols.as_slice())?)
         }
-        Answer::Bytes(bytes) => {
+        Ok(Answer::Bytes(bytes)) => {
             print!(rt; "= ok ")?;
-            say_bytes(rt, bytes.as_slice())?;
-            println!(rt; "")
+            end_by(rt, bytes_text(rt.alloc(), bytes.as_slice())?)
         }
-        Answer::Packet(len, buffer) => {
+        Ok(Answer::Packet(len, buffer)) => {
             print!(rt; "= ok {len} ")?;
-            say_bytes(rt, buffer.as_slice())?;
-            println!(rt; "")
+            end_by(rt, bytes_text(rt.alloc(), buffer.as_slice())?)
         }
-        Answer::Nodes(plan) => say_plan(rt, plan),
-        Answer::Number(number) => println!(rt; "= some {number}"),
-        Answer::Nothing => println!(rt; "= none"),
-        Answer::Refused(fault, altered) => say_fault(rt, *fault, *altered),
-        Answer::Error(reason) => println!(rt; "= error {reason}"),
+        Ok(Answer::Nodes(plan)) => say_plan(rt, &plan),
+        Ok(Answer::Missing(Some(number))) => println!(rt; "= some {number}"),
+        Ok(Answer::Missing(None)) => println!(rt; "= none"),
+        Err(Refusal::Fault(fault)) => println!(rt; "= fault {fault}"),
+        Err(Refusal::Altered(fault)) => println!(rt; "= fault {fault} altered"),
+        Err(Refusal::Error(reason)) => println!(rt; "= error {reason}"),
+        Err(Refusal::Memory(error)) => Err(io::Error::from(error)),
     }
 }

@@ -1,53 +1,67 @@
 // What a line asks for.
-use crate::calls::{Call, ReceiverCall};
-use crate::takes::{
-    MISFIT, bare, cut_in, lay_in, offer_in, open_in, pack_in, plan_in, read_in, rebuild_in,
-    sheet_in, standard_in, unpack_in,
-};
-use crate::words::Unread;
+use crate::calls::{Call, Nodes, PlanCall, ReceiverCall};
+use crate::reasons::Reason;
+use crate::words::{bytes, counts, field, filled, job, number, symbols};
 use std::alloc::Global;
 
-// The call of that name, with the words behind it.
-fn call_in(heap: Global, name: &str, words: &[&str]) -> Result<Call, Unread> {
-    match name {
-        "plan" => plan_in(heap, words),
-        "standard" => standard_in(words),
-        "nodes" => bare(Call::Nodes, words),
-        "open" => open_in(words),
-        "offer" => offer_in(heap, words),
-        "read" => read_in(heap, words),
-        "rebuild" => rebuild_in(heap, words),
-        "missing" => bare(Call::Receive(ReceiverCall::Missing), words),
-        "sheet" => sheet_in(heap, words),
-        "lay" => lay_in(heap, words),
-        "close" => bare(Call::Close, words),
-        "cut" => cut_in(heap, words),
-        "apart" => bare(Call::Apart, words),
-        "pack" => pack_in(heap, words),
-        "unpack" => unpack_in(heap, words),
-        _ => Err(Unread::Reason("no such call")),
-    }
+// The calls on a receiver.
+fn receiver_call(heap: Global, words: &[&str]) -> Result<Call, Reason> {
+    Ok(Call::Receive(match words {
+        ["offer", f, packet] => ReceiverCall::Offer(bytes(heap, packet)?, field(f)?),
+        ["read", f, count, fill] => ReceiverCall::Read(filled(heap, count, fill)?, field(f)?),
+        ["rebuild", f, i, count, fill] => {
+            ReceiverCall::Rebuild(filled(heap, count, fill)?, field(f)?, number(i)?)
+        }
+        ["missing"] => ReceiverCall::Missing,
+        _ => return Err(Reason::OtherWords),
+    }))
 }
 
-// The call that a text asks for: a name and what it takes, parted by single spaces.
-fn read_call(heap: Global, text: &str) -> Result<Call, Unread> {
-    let words: Vec<&str> = text.split(' ').collect(heap)?;
-    match words.as_slice() {
-        [name, rest @ ..] => call_in(heap, name, rest),
-        [] => Err(MISFIT),
-    }
+// The call that words ask for: its name, and what it takes.
+fn call_in(heap: Global, words: &[&str]) -> Result<Call, Reason> {
+    Ok(match words {
+        ["plan", f, m, r, len, data, checks] => Call::Make(PlanCall {
+            counts: counts(m, r, len)?,
+            nodes: Nodes::Given(symbols(heap, data)?, symbols(heap, checks)?),
+            field: field(f)?,
+        }),
+        ["standard", f, m, r, len] => Call::Make(PlanCall {
+            counts: counts(m, r, len)?,
+            nodes: Nodes::Standard,
+            field: field(f)?,
+        }),
+        ["nodes"] => Call::Nodes,
+        ["open", id, length] => Call::Open(job(id, length)?),
+        ["offer" | "read" | "rebuild" | "missing", ..] => receiver_call(heap, words)?,
+        ["sheet", count, fill] => Call::Sheet(filled(heap, count, fill)?),
+        ["lay", j, row] => Call::Lay(number(j)?, symbols(heap, row)?),
+        ["close"] => Call::Close,
+        ["cut", f, id, length, i, count, fill] => Call::Cut(
+            job(id, length)?,
+            field(f)?,
+            number(i)?,
+            filled(heap, count, fill)?,
+        ),
+        ["apart"] => Call::Apart,
+        ["pack", job, count, fill] => Call::Pack(bytes(heap, job)?, filled(heap, count, fill)?),
+        ["unpack", message, length, count, fill] => Call::Unpack(
+            symbols(heap, message)?,
+            number(length)?,
+            filled(heap, count, fill)?,
+        ),
+        ["plan" | "standard" | "nodes" | "open" | "sheet" | "lay", ..]
+        | ["close" | "cut" | "apart" | "pack" | "unpack", ..] => return Err(Reason::OtherWords),
+        _ => return Err(Reason::NoSuchCall),
+    })
 }
 
-// What a line asks for: nothing if it is empty or a remark.
-pub fn read_line(heap: Global, line: &[u8]) -> Result<Option<Call>, Unread> {
-    if line.is_empty() || line[0] == b'#' {
+// What a line asks for: nothing if it is empty or a remark. The words of a call are parted by single spaces.
+pub fn read_line(heap: Global, line: &[u8]) -> Result<Option<Call>, Reason> {
+    if line.is_empty() || line.starts_with(b"#") {
         return Ok(None);
     }
-    let Ok(text) = std::str::from_utf8(line) else {
-        return Err(Unread::Reason("no text"));
-    };
-    match text.strip_prefix("> ") {
-        Some(rest) => Ok(Some(read_call(heap, rest)?)),
-        None => Err(Unread::Reason("neither a call nor a remark")),
-    }
+    let text = std::str::from_utf8(line).map_err(|_| Reason::NoText)?;
+    let call = text.strip_prefix("> ").ok_or(Reason::NoMark)?;
+    let words: Vec<&str> = call.split(' ').collect(heap)?;
+    Ok(Some(call_in(heap, words.as_slice())?))
 }

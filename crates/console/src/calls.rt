@@ -1,13 +1,6 @@
 // The calls that lines ask for, each with all that it takes, its buffers filled.
+use cutting::request::FieldChoice;
 use packet::Job;
-
-// The field that a call names.
-#[derive(Clone, Copy)]
-pub enum FieldName {
-    Byte,
-    Nibble,
-    Prime,
-}
 
 // m, r and L.
 #[derive(Clone, Copy)]
@@ -17,19 +10,27 @@ pub struct Counts {
     pub symbols: usize,
 }
 
-// The calls that make a plan.
+// The nodes of a plan.
 #[derive(Drop)]
-pub enum PlanCall {
-    Given(FieldName, Counts, Vec<u16>, Vec<u16>),
-    Standard(FieldName, Counts),
+pub enum Nodes {
+    // Those of the data packets, and those of the check packets.
+    Given(Vec<u16>, Vec<u16>),
+    Standard,
+}
+
+#[derive(Drop)]
+pub struct PlanCall {
+    pub counts: Counts,
+    pub nodes: Nodes,
+    pub field: FieldChoice,
 }
 
 // The calls on an open receiver.
 #[derive(Drop)]
 pub enum ReceiverCall {
-    Offer(FieldName, Vec<u8>),
-    Read(FieldName, Vec<u16>),
-    Rebuild(FieldName, usize, Vec<u8>),
+    Offer(Vec<u8>, FieldChoice),
+    Read(Vec<u16>, FieldChoice),
+    Rebuild(Vec<u8>, FieldChoice, usize),
     Missing,
 }
 
@@ -42,7 +43,7 @@ pub enum Call {
     Sheet(Vec<u16>),
     Lay(usize, Vec<u16>),
     Close,
-    Cut(FieldName, Job, usize, Vec<u8>),
+    Cut(Job, FieldChoice, usize, Vec<u8>),
     Apart,
     Pack(Vec<u8>, Vec<u16>),
     Unpack(Vec<u16>, usize, Vec<u8>),

@@ -1,68 +1,45 @@
 // The plan's place, the receiver, and the calls on them.
 use crate::answers::Answer;
-use crate::calls::{Call, Counts, FieldName, PlanCall, ReceiverCall};
+use crate::buffers::filled_by;
+use crate::calls::{Call, Nodes, PlanCall, ReceiverCall};
 use crate::fields::over_field;
-use crate::machine::{missing, offered, rebuilt, received};
+use crate::reasons::{Reason, Refusal, refused};
 use binary::{ByteField, NibbleField};
-use checks::fault::Fault;
-use code::fault::PlanFault;
 use code::plan::Plan;
+use cutting::request::FieldChoice;
 use field::{Field, SteppedField};
 use job::{pack, unpack};
-use packet::Job;
 use prime::PrimeField;
 use receiver::receiver::Receiver;
-use std::alloc::AllocError;
 
-// What the calls change.
+// What the calls change: the plan, unmade at first, and the receiver, once a call has opened it.
 #[derive(Drop)]
 pub struct Desk {
     plan: Plan,
-    // Whether the receiver was opened by a call.
-    opened: bool,
-    receiver: Receiver,
+    receiver: Option<Receiver>,
 }
 
-fn made(res: Result<(), PlanFault>) -> Answer {
-    match res {
-        Ok(()) => Answer::Done,
-        Err(fault) => Answer::Refused(Fault::from(fault), false),
-    }
-}
-
-fn packed(plan: &Plan, bytes: &[u8], mut message: Vec<u16>) -> Result<Answer, AllocError> {
-    let before = message.clone()?;
-    match pack(plan, bytes, message.as_mut_slice()) {
-        Ok(()) => Ok(Answer::Symbols(message)),
-        Err(fault) => Ok(Answer::Refused(Fault::from(fault), message != before)),
-    }
-}
-
-fn unpacked(
-    plan: &Plan,
-    message: &[u16],
-    len: usize,
-    mut job: Vec<u8>,
-) -> Result<Answer, AllocError> {
-    let before = job.clone()?;
-    match unpack(plan, message, len, job.as_mut_slice()) {
-        Ok(()) => Ok(Answer::Bytes(job)),
-        Err(fault) => Ok(Answer::Refused(Fault::from(fault), job != before)),
+// Answers a call on an open receiver.
+fn receive(receiver: &mut Receiver, call: ReceiverCall) -> Result<Answer, Refusal> {
+    match call {
+        ReceiverCall::Offer(packet, field) => {
+            over_field!(field, f => receiver.offer(f, packet.as_slice()))
+                .map(Answer::Count)
+                .map_err(refused)
+        }
+        ReceiverCall::Read(message, field) => over_field!(field, f =>
+            filled_by(message, |out| receiver.read(f, out), |(), out| Answer::Symbols(out))),
+        ReceiverCall::Rebuild(out, field, number) => over_field!(field, f =>
+            filled_by(out, |out| receiver.rebuild(f, number, out), Answer::Packet)),
+        ReceiverCall::Missing => Ok(Answer::Missing(receiver.missing())),
     }
 }
 
 impl Desk {
-    // The unmade plan, and no receiver.
     pub fn new() -> Desk {
-        let plan = Plan::new();
-        let job = Job {
-            number: 0,
-            length: 0,
-        };
         Desk {
-            plan,
-            opened: false,
-            receiver: Receiver::open(&plan, job),
+            plan: Plan::new(),
+            receiver: None,
         }
     }
 
@@ -70,65 +47,51 @@ impl Desk {
         &self.plan
     }
 
-    fn make_given(
-        &mut self,
-        field: FieldName,
-        counts: Counts,
-        data: &[u16],
-        checks: &[u16],
-    ) -> Answer {
-        let m = counts.data;
-        let r = counts.checks;
-        let len = counts.symbols;
-        made(over_field!(field, f => self.plan.make(f, m, r, len, data, checks)))
-    }
-
-    fn make_standard(&mut self, field: FieldName, counts: Counts) -> Answer {
-        let m = counts.data;
-        let r = counts.checks;
-        let len = counts.symbols;
-        made(over_field!(field, f => self.plan.make_standard(f, m, r, len)))
-    }
-
-    pub fn make(&mut self, call: PlanCall) -> Answer {
-        match call {
-            PlanCall::Given(field, counts, data, checks) => {
-                self.make_given(field, counts, data.as_slice(), checks.as_slice())
-            }
-            PlanCall::Standard(field, counts) => self.make_standard(field, counts),
-        }
-    }
-
-    fn receive(&mut self, call: ReceiverCall) -> Result<Answer, AllocError> {
-        if !self.opened {
-            return Ok(Answer::Error("no receiver"));
-        }
-        match call {
-            ReceiverCall::Offer(field, bytes) => {
-                Ok(offered(&mut self.receiver, field, bytes.as_slice()))
-            }
-            ReceiverCall::Read(field, message) => received(&self.receiver, field, message),
-            ReceiverCall::Rebuild(field, number, out) => {
-                rebuilt(&self.receiver, field, number, out)
-            }
-            ReceiverCall::Missing => Ok(missing(&self.receiver)),
-        }
+    pub fn make(&mut self, call: PlanCall) -> Result<Answer, Refusal> {
+        let PlanCall {
+            counts,
+            nodes,
+            field,
+        } = call;
+        let made = match nodes {
+            Nodes::Given(data, checks) => over_field!(field, f => self.plan.make(
+                f,
+                counts.data,
+                counts.checks,
+                counts.symbols,
+                data.as_slice(),
+                checks.as_slice(),
+            )),
+            Nodes::Standard => over_field!(field, f =>
+                self.plan.make_standard(f, counts.data, counts.checks, counts.symbols)),
+        };
+        made.map(|()| Answer::Done).map_err(refused)
     }
 
     // Answers a call while there is no sheet.
-    pub fn answer(&mut self, call: Call) -> Result<Answer, AllocError> {
+    pub fn answer(&mut self, call: Call) -> Result<Answer, Refusal> {
         match call {
-            Call::Make(making) => Ok(self.make(making)),
+            Call::Make(making) => self.make(making),
             Call::Nodes => Ok(Answer::Nodes(self.plan)),
             Call::Open(job) => {
-                self.receiver = Receiver::open(&self.plan, job);
-                self.opened = true;
+                self.receiver = Some(Receiver::open(&self.plan, job));
                 Ok(Answer::Done)
             }
-            Call::Receive(receiving) => self.receive(receiving),
-            Call::Pack(bytes, message) => packed(&self.plan, bytes.as_slice(), message),
-            Call::Unpack(message, len, job) => unpacked(&self.plan, message.as_slice(), len, job),
-            _ => Ok(Answer::Error("no sheet")),
+            Call::Receive(receiving) => {
+                let receiver = self.receiver.as_mut().ok_or(Reason::NoReceiver)?;
+                receive(receiver, receiving)
+            }
+            Call::Pack(job, message) => filled_by(
+                message,
+                |out| pack(&self.plan, job.as_slice(), out),
+                |(), out| Answer::Symbols(out),
+            ),
+            Call::Unpack(message, len, job) => filled_by(
+                job,
+                |out| unpack(&self.plan, message.as_slice(), len, out),
+                |(), out| Answer::Bytes(out),
+            ),
+            _ => Err(Refusal::Error(Reason::NoSheet)),
         }
     }
 }

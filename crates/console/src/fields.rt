@@ -1,18 +1,19 @@
 // One call over the field that it names.
+// Kept: a macro, since a closure cannot take fields of different types.
 
-// Puts a field of that name in for `$over`.
+// Puts the field that was chosen in for `$over`.
 macro_rules! over_field {
-    ($name:expr, $over:ident => $call:expr) => {
-        match $name {
-            FieldName::Byte => {
+    ($choice:expr, $over:ident => $call:expr) => {
+        match $choice {
+            FieldChoice::Byte => {
                 let $over = &ByteField {};
                 $call
             }
-            FieldName::Nibble => {
+            FieldChoice::Nibble => {
                 let $over = &NibbleField {};
                 $call
             }
-            FieldName::Prime => {
+            FieldChoice::Prime => {
                 let $over = &PrimeField {};
                 $call
             }

@@ -1,22 +1,12 @@
 // The lines of standard input.
+use crate::answers::{Answer, say};
 use crate::asks::read_line;
 use crate::calls::Call;
-use crate::words::Unread;
-use std::alloc::Global;
+use crate::reasons::Refusal;
 use std::io;
 use std::io::{BufRead, BufReader};
+use std::ops::ControlFlow;
 use std::rt::Stdin;
-
-// What comes next.
-#[derive(Drop)]
-pub enum Line {
-    Call(Call),
-    // Why it is no call.
-    Unread(&'static str),
-    // Nothing to answer.
-    Pass,
-    End,
-}
 
 #[derive(Drop)]
 pub struct Input {
@@ -39,16 +29,38 @@ impl Input {
         })
     }
 
-    pub fn next(&mut self, heap: Global) -> io::Result<Line> {
-        let mut line = Vec::new(heap);
-        if self.reader.read_until(b'\n', &mut line)? == 0 {
-            return Ok(Line::End);
+    // The next call, if one comes before the end. A line before it that is not read is answered here.
+    fn next_call(&mut self, rt: &HostRuntime) -> io::Result<Option<Call>> {
+        for _ in 0..u64::MAX {
+            let mut line = Vec::new(rt.alloc());
+            if self.reader.read_until(b'\n', &mut line)? == 0 {
+                return Ok(None);
+            }
+            match read_line(rt.alloc(), without_end(line.as_slice())) {
+                Ok(Some(call)) => return Ok(Some(call)),
+                Ok(None) => {}
+                Err(reason) => say(rt, Err(Refusal::Error(reason)))?,
+            }
         }
-        match read_line(heap, without_end(line.as_slice())) {
-            Ok(Some(call)) => Ok(Line::Call(call)),
-            Ok(None) => Ok(Line::Pass),
-            Err(Unread::Reason(reason)) => Ok(Line::Unread(reason)),
-            Err(Unread::Memory) => Ok(Line::Unread("no memory")),
+        Ok(None)
+    }
+
+    // Answers calls up to the one that `answer` breaks at, and hands over what it breaks with, or nothing at the end.
+    pub fn answer_until<T, F>(&mut self, rt: &HostRuntime, mut answer: F) -> io::Result<Option<T>>
+    where
+        T: Drop,
+        F: FnMut(Call) -> ControlFlow<T, Result<Answer, Refusal>>,
+        requires { F.IsAlwaysCallable answer }
+    {
+        for _ in 0..u64::MAX {
+            let Some(call) = self.next_call(rt)? else {
+                return Ok(None);
+            };
+            match answer(call) {
+                ControlFlow::Continue(answer) => say(rt, answer)?,
+                ControlFlow::Break(last) => return Ok(Some(last)),
+            }
         }
+        Ok(None)
     }
 }

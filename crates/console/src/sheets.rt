@@ -1,102 +1,69 @@
 // A sheet from its opening to its taking apart.
 use crate::answers::{Answer, say};
-use crate::calls::{Call, FieldName};
+use crate::buffers::filled_by;
+use crate::calls::Call;
 use crate::desk::Desk;
 use crate::fields::over_field;
-use crate::input::{Input, Line};
+use crate::input::Input;
+use crate::reasons::{Reason, Refusal, refused};
 use binary::{ByteField, NibbleField};
-use checks::fault::Fault;
+use cutting::request::FieldChoice;
 use field::Field;
-use packet::Job;
 use prime::PrimeField;
 use sheet::closed::ClosedSheet;
 use sheet::opened::OpenSheet;
-use std::alloc::AllocError;
 use std::io;
+use std::ops::ControlFlow;
 
-fn laid(sheet: &mut OpenSheet, number: usize, row: &[u16]) -> Answer {
-    match sheet.lay(number, row) {
-        Ok(()) => Answer::Done,
-        Err(fault) => Answer::Refused(Fault::from(fault), false),
-    }
-}
-
-fn cut(
-    desk: &Desk,
-    sheet: &ClosedSheet,
-    field: FieldName,
-    job: Job,
-    number: usize,
-    mut out: Vec<u8>,
-) -> Result<Answer, AllocError> {
-    let before = out.clone()?;
-    let result =
-        over_field!(field, f => sheet.cut(desk.plan(), f, job, number, out.as_mut_slice()));
-    match result {
-        Ok(len) => Ok(Answer::Packet(len, out)),
-        Err(fault) => Ok(Answer::Refused(Fault::from(fault), out != before)),
-    }
-}
-
-fn answer_open(desk: &mut Desk, sheet: &mut OpenSheet, call: Call) -> Answer {
+fn answer_open(desk: &mut Desk, sheet: &mut OpenSheet, call: Call) -> Result<Answer, Refusal> {
     match call {
-        Call::Lay(number, row) => laid(sheet, number, row.as_slice()),
+        Call::Lay(number, row) => sheet
+            .lay(number, row.as_slice())
+            .map(|()| Answer::Done)
+            .map_err(refused),
         Call::Make(making) => desk.make(making),
-        _ => Answer::Error("an open sheet takes lay, close, plan and standard"),
+        _ => Err(Refusal::Error(Reason::OpenSheet)),
     }
 }
 
-fn answer_closed(desk: &mut Desk, sheet: &ClosedSheet, call: Call) -> Result<Answer, AllocError> {
+fn answer_closed(desk: &mut Desk, sheet: &ClosedSheet, call: Call) -> Result<Answer, Refusal> {
     match call {
-        Call::Cut(field, job, number, out) => cut(desk, sheet, field, job, number, out),
-        Call::Make(making) => Ok(desk.make(making)),
-        _ => Ok(Answer::Error("a closed sheet takes cut, apart, plan and standard")),
+        Call::Cut(job, field, number, out) => over_field!(field, f =>
+            filled_by(out, |out| sheet.cut(desk.plan(), f, job, number, out), Answer::Packet)),
+        Call::Make(making) => desk.make(making),
+        _ => Err(Refusal::Error(Reason::ClosedSheet)),
     }
 }
 
-// Goes through the lines of an open sheet. Whether it was closed, and not the input's end reached.
-fn while_open(
+// Answers the calls on an open sheet until it is closed, or the input ends.
+fn lay_rows(
     rt: &HostRuntime,
     input: &mut Input,
     desk: &mut Desk,
     sheet: &mut OpenSheet,
-) -> io::Result<bool> {
-    say(rt, &Answer::Done)?;
-    for _ in 0..u64::MAX {
-        match input.next(rt.alloc())? {
-            Line::End => return Ok(false),
-            Line::Pass => {}
-            Line::Unread(reason) => say(rt, &Answer::Error(reason))?,
-            Line::Call(Call::Close) => {
-                say(rt, &Answer::Done)?;
-                return Ok(true);
-            }
-            Line::Call(call) => say(rt, &answer_open(desk, sheet, call))?,
-        }
-    }
-    Ok(false)
+) -> io::Result<Option<()>> {
+    say(rt, Ok(Answer::Done))?;
+    input.answer_until(rt, |call| match call {
+        Call::Close => ControlFlow::Break(()),
+        call => ControlFlow::Continue(answer_open(desk, sheet, call)),
+    })
 }
 
-// Goes through the lines of a closed sheet. Whether it was taken apart, and not the input's end reached.
-fn while_closed(
+// Answers the calls on a closed sheet until it is taken apart, or the input ends.
+fn cut_packets(
     rt: &HostRuntime,
     input: &mut Input,
     desk: &mut Desk,
     sheet: &ClosedSheet,
-) -> io::Result<bool> {
-    for _ in 0..u64::MAX {
-        match input.next(rt.alloc())? {
-            Line::End => return Ok(false),
-            Line::Pass => {}
-            Line::Unread(reason) => say(rt, &Answer::Error(reason))?,
-            Line::Call(Call::Apart) => return Ok(true),
-            Line::Call(call) => say(rt, &answer_closed(desk, sheet, call)?)?,
-        }
-    }
-    Ok(false)
+) -> io::Result<Option<()>> {
+    say(rt, Ok(Answer::Done))?;
+    input.answer_until(rt, |call| match call {
+        Call::Apart => ControlFlow::Break(()),
+        call => ControlFlow::Continue(answer_closed(desk, sheet, call)),
+    })
 }
 
-// Opens a sheet over the buffer, and answers the lines until it is taken apart.
+// Opens a sheet over the buffer, and answers the calls until it is taken apart.
 pub fn run_sheet(
     rt: &HostRuntime,
     input: &mut Input,
@@ -104,16 +71,16 @@ pub fn run_sheet(
     mut buffer: Vec<u16>,
 ) -> io::Result<()> {
     let mut sheet = OpenSheet::open(desk.plan(), buffer.as_mut_slice());
-    let closed = while_open(rt, input, desk, &mut sheet);
+    let closed = lay_rows(rt, input, desk, &mut sheet);
     let sheet = sheet.close();
     let apart = match closed {
-        Ok(true) => while_closed(rt, input, desk, &sheet),
+        Ok(Some(())) => cut_packets(rt, input, desk, &sheet),
         other => other,
     };
     let symbols = sheet.into_buffer();
-    if apart? {
-        let symbols = Vec::from_slice(rt.alloc(), symbols)?;
-        say(rt, &Answer::Symbols(symbols))?;
+    if apart?.is_none() {
+        return Ok(());
     }
-    Ok(())
+    let symbols = Vec::from_slice(rt.alloc(), symbols)?;
+    say(rt, Ok(Answer::Symbols(symbols)))
 }
