@@ -16,56 +16,44 @@ fn print_powers<F: Field>(rt: &HostRuntime, field: &F, name: &str, count: u32) -
     Ok(())
 }
 
-// One row of the tables: over all b, the sums a + b and the products a · b, each times b + 1, added up as plain numbers.
-fn weighted<F: Field>(field: &F, a: u16) -> (u32, u32) {
-    let mut sums = 0u32;
-    let mut products = 0u32;
-    let mut weight = 1u32;
-    for b in 0..=65535u16 {
-        if u32::from(b) < field.size() {
-            sums = sums.wrapping_add(weight.wrapping_mul(u32::from(field.sum(a, b))));
-            products = products.wrapping_add(weight.wrapping_mul(u32::from(field.product(a, b))));
-            weight = weight.wrapping_add(1);
-        }
-    }
-    (sums, products)
-}
-
-fn mixed(h: u32, symbol: u16) -> u32 {
-    h.wrapping_mul(263).wrapping_add(u32::from(symbol)) % 1_000_003
-}
-
-// The same row, hashed, so that no two errors cancel.
-fn hashed<F: Field>(field: &F, a: u16) -> (u32, u32) {
+// One row of the tables: over all b, the sums a + b and the products a · b, each taken into a number by `take_in`.
+fn row<F: Field, T: Fn(u32, u32, u16) -> u32>(field: &F, a: u16, take_in: T) -> (u32, u32)
+    requires { T.IsAlwaysCallable take_in }
+{
     let mut sums = 0;
     let mut products = 0;
-    for b in 0..=65535u16 {
-        if u32::from(b) < field.size() {
-            sums = mixed(sums, field.sum(a, b));
-            products = mixed(products, field.product(a, b));
-        }
+    for b in 0..field.size() {
+        sums = take_in(sums, b, field.sum(a, b as u16));
+        products = take_in(products, b, field.product(a, b as u16));
     }
     (sums, products)
+}
+
+// Adds up plain numbers, each times b + 1.
+fn weighted(total: u32, b: u32, symbol: u16) -> u32 {
+    total.wrapping_add(b.wrapping_add(1).wrapping_mul(u32::from(symbol)))
+}
+
+// A hash, so that no two errors cancel.
+fn hashed(hash: u32, _b: u32, symbol: u16) -> u32 {
+    hash.wrapping_mul(263).wrapping_add(u32::from(symbol)) % 1_000_003
 }
 
 fn print_table<F: Field>(rt: &HostRuntime, field: &F, name: &str) -> io::Result<()> {
-    for a in 0..=65535u16 {
-        if u32::from(a) < field.size() {
-            let negative = field.negative(a);
-            let inverse = field.inverse(a);
-            let (sums, products) = weighted(field, a);
-            println!(rt; "{name} {a} {negative} {inverse} {sums} {products}")?;
-        }
+    for a in 0..field.size() {
+        let a = a as u16;
+        let negative = field.negative(a);
+        let inverse = field.inverse(a);
+        let (sums, products) = row(field, a, weighted);
+        println!(rt; "{name} {a} {negative} {inverse} {sums} {products}")?;
     }
     Ok(())
 }
 
 fn print_rows<F: Field>(rt: &HostRuntime, field: &F, name: &str) -> io::Result<()> {
-    for a in 0..=65535u16 {
-        if u32::from(a) < field.size() {
-            let (sums, products) = hashed(field, a);
-            println!(rt; "{name} rows {a} {sums} {products}")?;
-        }
+    for a in 0..field.size() {
+        let (sums, products) = row(field, a as u16, hashed);
+        println!(rt; "{name} rows {a} {sums} {products}")?;
     }
     Ok(())
 }

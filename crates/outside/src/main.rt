@@ -3,57 +3,39 @@
 #![tactic(auto)]
 
 use cutting::cut::{CutError, cut_input};
+use dialog::hex::{bytes_in, bytes_text};
 use packet::{HEADER_LEN, ROW_COUNT_AT, word_at};
 use std::alloc::{AllocError, Global};
 use std::io;
-use std::io::{BufRead, BufReader};
+use std::io::{BufRead, BufReader, Write};
 
-// A digit of base sixteen, or nothing for any other character.
-fn digit(c: u8) -> Option<u8> {
-    match c {
-        b'0'..=b'9' => Some(c - b'0'),
-        b'a'..=b'f' => Some(c - b'a' + 10),
-        _ => None,
-    }
-}
-
-// The bytes that a line writes, two digits each; the parts of a line are not told apart.
-fn bytes_of(heap: Global, line: &[u8]) -> Result<Vec<u8>, AllocError> {
-    let mut bytes = Vec::new(heap);
-    let mut high = None;
-    for c in line {
-        let Some(low) = digit(*c) else {
-            continue;
+// The bytes of all words of a line.
+fn line_bytes(heap: Global, line: &str) -> Result<Option<Vec<u8>>, AllocError> {
+    let mut all = Vec::new(heap);
+    for word in line.split(' ') {
+        let Some(bytes) = bytes_in(heap, word)? else {
+            return Ok(None);
         };
-        high = match high {
-            None => Some(low),
-            Some(first) => {
-                bytes.push((first & 15) * 16 + (low & 15))?;
-                None
-            }
-        };
+        all.extend_from_slice(bytes.as_slice())?;
     }
-    Ok(bytes)
-}
-
-fn print_packet(rt: &HostRuntime, bytes: &[u8]) -> io::Result<()> {
-    for b in bytes {
-        print!(rt; "{b:02x}")?;
-    }
-    println!(rt; "")
+    Ok(Some(all))
 }
 
 // All packets of a job have the length that the first header tells.
 fn print_packets(rt: &HostRuntime, packets: &[u8]) -> io::Result<()> {
     let len = HEADER_LEN + usize::from(word_at(packets, ROW_COUNT_AT));
-    for bytes in packets.chunks(len) {
-        print_packet(rt, bytes)?;
+    for packet in packets.chunks(len) {
+        let text = bytes_text(rt.alloc(), packet)?;
+        rt.stdout().write_all(text.as_slice())?;
+        println!(rt; "")?;
     }
     Ok(())
 }
 
-fn cut_line(rt: &HostRuntime, line: &[u8]) -> io::Result<()> {
-    let input = bytes_of(rt.alloc(), line)?;
+fn cut_line(rt: &HostRuntime, line: &str) -> io::Result<()> {
+    let Some(input) = line_bytes(rt.alloc(), line)? else {
+        return eprintln!(rt; "no bytes in hex: {line}");
+    };
     match cut_input(rt.alloc(), input.as_slice()) {
         Ok(packets) => print_packets(rt, packets.as_slice()),
         Err(CutError::Refused(fault)) => println!(rt; "refused {fault}"),
@@ -63,7 +45,7 @@ fn cut_line(rt: &HostRuntime, line: &[u8]) -> io::Result<()> {
 
 fn main(rt: HostRuntime) -> io::Result<()> {
     for line in BufReader::new(rt.alloc(), rt.stdin())?.lines(rt.alloc()) {
-        cut_line(&rt, line?.as_bytes())?;
+        cut_line(&rt, line?.as_str())?;
     }
     Ok(())
 }
