@@ -1,14 +1,7 @@
 // The calls that lines ask for, each with all that it takes, its buffers filled.
+use code::plan::Counts;
 use cutting::request::FieldChoice;
 use packet::Job;
-
-// m, r and L.
-#[derive(Clone, Copy)]
-pub struct Counts {
-    pub data: usize,
-    pub checks: usize,
-    pub symbols: usize,
-}
 
 // The nodes of a plan.
 #[derive(Drop)]

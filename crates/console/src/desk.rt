@@ -54,16 +54,10 @@ impl Desk {
             field,
         } = call;
         let made = match nodes {
-            Nodes::Given(data, checks) => over_field!(field, f => self.plan.make(
-                f,
-                counts.data,
-                counts.checks,
-                counts.symbols,
-                data.as_slice(),
-                checks.as_slice(),
-            )),
+            Nodes::Given(data, checks) =>
+                over_field!(field, f => self.plan.make(f, counts, data.as_slice(), checks.as_slice())),
             Nodes::Standard => over_field!(field, f =>
-                self.plan.make_standard(f, counts.data, counts.checks, counts.symbols)),
+                self.plan.make_standard(f, counts)),
         };
         made.map(|()| Answer::Done).map_err(refused)
     }

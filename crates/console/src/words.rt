@@ -1,6 +1,6 @@
 // The words of a line as what a call takes.
-use crate::calls::Counts;
 use crate::reasons::Reason;
+use code::plan::Counts;
 use cutting::request::FieldChoice;
 use dialog::decimal::number_in;
 use dialog::hex::{bytes_in, symbols_in};
@@ -24,9 +24,9 @@ where
 
 pub fn counts(data: &str, checks: &str, symbols: &str) -> Result<Counts, Reason> {
     Ok(Counts {
-        data: number(data)?,
-        checks: number(checks)?,
-        symbols: number(symbols)?,
+        data_count: number(data)?,
+        check_count: number(checks)?,
+        row_len: number(symbols)?,
     })
 }
 
