@@ -1,19 +1,18 @@
 // The cutter's plan: the node of packet n is n.
-ghost use Rattle.std.specs.Prelude.{◌≡◌, ◌≤◌, length};
+ghost use Rattle.std.specs.Prelude.{◌≡◌};
 ghost use Rattle.std.specs.List.{range_with_len};
 ghost use Rattle.cutting.specs.Cutting.{Planned, cutter_checks, cutter_plan};
 
 use code::fault::PlanFault;
 use code::plan::{Counts, MOST_NODES, Plan};
 use field::Field;
+use std::array;
 
-fn count_up(nodes: &mut [u16])
-    requires few { length nodes.old ≤ 128 }
-    ensures { nodes.new ≡ range_with_len 0 (length nodes.old) }
+// As many nodes as a plan can have, counted up from 0.
+fn count_up() -> [u16; MOST_NODES]
+    ensures { result ≡ range_with_len 0 128 }
 {
-    for (n, node) in nodes.iter_mut().enumerate() {
-        *node = n as u16;
-    }
+    array::from_fn(|n| n as u16)
 }
 
 // A new plan of these counts over a field.
@@ -24,8 +23,7 @@ pub fn counted_plan<F: Field>(field: &F, counts: Counts) -> Result<Plan, PlanFau
         result }
 {
     counts.check()?;
-    let mut nodes = [0; MOST_NODES];
-    count_up(&mut nodes);
+    let nodes = count_up();
     let (data_nodes, others) = nodes.split_at(counts.data_count);
     let (check_nodes, _) = others.split_at(counts.check_count);
     let mut plan = Plan::new();

@@ -12,7 +12,7 @@ returns-in_err-make g c =
     let m = c.args.counts.data_count in
     let r = c.args.counts.check_count in
     let h = ranges m r c.args.counts.row_len c.in_ok-check.ensures in
-    let nodes : c.count_up.new.nodes ≡ range_with_len 0 128 = c.count_up.ensures in
+    let nodes = c.count_up-nodes.ensures in
     let front = c.split_at.ensures.front ∙ ap (λ xs. take m xs) nodes ∙ part_counted 0 m 128 m (omega arith) (omega arith) in
     let back = c.split_at-2.ensures.front ∙ ap (λ xs. take r xs) (c.split_at.ensures.back ∙ ap (λ xs. drop m xs) nodes) ∙ part_counted m r 128 r (omega arith) (omega arith) in
     let e = err_from_is_err_and c.from_residual-in_err-make.result c.from_residual-in_err-make.ensures.1 in
@@ -26,7 +26,7 @@ returns g c =
     let m = c.args.counts.data_count in
     let r = c.args.counts.check_count in
     let h = ranges m r c.args.counts.row_len c.in_ok-check.ensures in
-    let nodes : c.count_up.new.nodes ≡ range_with_len 0 128 = c.count_up.ensures in
+    let nodes = c.count_up-nodes.ensures in
     let front = c.split_at.ensures.front ∙ ap (λ xs. take m xs) nodes ∙ part_counted 0 m 128 m (omega arith) (omega arith) in
     let back = c.split_at-2.ensures.front ∙ ap (λ xs. take r xs) (c.split_at.ensures.back ∙ ap (λ xs. drop m xs) nodes) ∙ part_counted m r 128 r (omega arith) (omega arith) in
     planned_ok q m r c.args.counts.row_len _ _ front back _ c.make.new.self c.make.result c.in_ok-make.was c.make.ensures
