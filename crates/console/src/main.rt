@@ -3,8 +3,8 @@
 
 use crate::calls::Call;
 use crate::desk::Desk;
-use crate::input::Input;
 use crate::sheets::run_sheet;
+use crate::terminal::Terminal;
 use std::io;
 use std::ops::ControlFlow;
 
@@ -14,23 +14,23 @@ mod buffers;
 mod calls;
 mod desk;
 mod fields;
-mod input;
 mod reasons;
 mod sheets;
+mod terminal;
 mod words;
 
 fn main(rt: HostRuntime) -> io::Result<()> {
-    let mut input = Input::new(&rt)?;
+    let mut terminal = Terminal::new(&rt)?;
     let mut desk = Desk::new();
     for _ in 0..u64::MAX {
-        let next = input.answer_until(&rt, |call| match call {
+        let next = terminal.answer_until(|call| match call {
             Call::Sheet(buffer) => ControlFlow::Break(buffer),
             call => ControlFlow::Continue(desk.answer(call)),
         })?;
         let Some(buffer) = next else {
             break;
         };
-        run_sheet(&rt, &mut input, &mut desk, buffer)?;
+        run_sheet(&mut terminal, &mut desk, buffer)?;
     }
     Ok(())
 }

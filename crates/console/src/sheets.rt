@@ -1,11 +1,11 @@
 // A sheet from its opening to its taking apart.
-use crate::answers::{Answer, say};
+use crate::answers::Answer;
 use crate::buffers::filled_by;
 use crate::calls::Call;
 use crate::desk::Desk;
 use crate::fields::over_field;
-use crate::input::Input;
 use crate::reasons::{Reason, Refusal, refused};
+use crate::terminal::Terminal;
 use binary::{ByteField, NibbleField};
 use cutting::request::FieldChoice;
 use field::Field;
@@ -37,13 +37,12 @@ fn answer_closed(desk: &mut Desk, sheet: &ClosedSheet, call: Call) -> Result<Ans
 
 // Answers the calls on an open sheet until it is closed, or the input ends.
 fn lay_rows(
-    rt: &HostRuntime,
-    input: &mut Input,
+    terminal: &mut Terminal,
     desk: &mut Desk,
     sheet: &mut OpenSheet,
 ) -> io::Result<Option<()>> {
-    say(rt, Ok(Answer::Done))?;
-    input.answer_until(rt, |call| match call {
+    terminal.say(Ok(Answer::Done))?;
+    terminal.answer_until(|call| match call {
         Call::Close => ControlFlow::Break(()),
         call => ControlFlow::Continue(answer_open(desk, sheet, call)),
     })
@@ -51,36 +50,30 @@ fn lay_rows(
 
 // Answers the calls on a closed sheet until it is taken apart, or the input ends.
 fn cut_packets(
-    rt: &HostRuntime,
-    input: &mut Input,
+    terminal: &mut Terminal,
     desk: &mut Desk,
     sheet: &ClosedSheet,
 ) -> io::Result<Option<()>> {
-    say(rt, Ok(Answer::Done))?;
-    input.answer_until(rt, |call| match call {
+    terminal.say(Ok(Answer::Done))?;
+    terminal.answer_until(|call| match call {
         Call::Apart => ControlFlow::Break(()),
         call => ControlFlow::Continue(answer_closed(desk, sheet, call)),
     })
 }
 
 // Opens a sheet over the buffer, and answers the calls until it is taken apart.
-pub fn run_sheet(
-    rt: &HostRuntime,
-    input: &mut Input,
-    desk: &mut Desk,
-    mut buffer: Vec<u16>,
-) -> io::Result<()> {
+pub fn run_sheet(terminal: &mut Terminal, desk: &mut Desk, mut buffer: Vec<u16>) -> io::Result<()> {
     let mut sheet = OpenSheet::open(desk.plan(), buffer.as_mut_slice());
-    let closed = lay_rows(rt, input, desk, &mut sheet);
+    let closed = lay_rows(terminal, desk, &mut sheet);
     let sheet = sheet.close();
     let apart = match closed {
-        Ok(Some(())) => cut_packets(rt, input, desk, &sheet),
+        Ok(Some(())) => cut_packets(terminal, desk, &sheet),
         other => other,
     };
     let symbols = sheet.into_buffer();
     if apart?.is_none() {
         return Ok(());
     }
-    let symbols = Vec::from_slice(rt.alloc(), symbols)?;
-    say(rt, Ok(Answer::Symbols(symbols)))
+    let symbols = Vec::from_slice(terminal.alloc(), symbols)?;
+    terminal.say(Ok(Answer::Symbols(symbols)))
 }
