@@ -1,7 +1,7 @@
 -- Numbers and rows as bytes, and back. Assumes nothing.
-use Rattle.std.proofs.Common.{◌≡◌, ℕ, zero, suc, ◌+◌, ◌*◌, ◌/◌, ◌%◌, ◌<◌, ◌≤◌, ltb, List, [], ◌∷◌, map, length, sym, refl, ap, ◌∙◌, ap₂, inl, inr, arith}
+use Rattle.std.proofs.Common.{◌≡◌, ℕ, zero, suc, ◌+◌, ◌*◌, ◌/◌, ◌%◌, ◌<◌, ltb, List, [], ◌∷◌, map, length, sym, refl, ap, ◌∙◌, ap₂, inl, inr, arith}
 use Rattle.std.specs.List.{AllByRecursion}
-use Rattle.std.proofs.lemmas.List.{length-map, get_or_past}
+use Rattle.std.proofs.lemmas.List.{length-map}
 use Rattle.std.proofs.ByRecursion.{All-weaker}
 use Rattle.std.proofs.lemmas.List.FromFn.{fill_by_all}
 use Rattle.std.proofs.lemmas.Bool.{cases_Bool, ltb-false}
@@ -34,9 +34,9 @@ length_pairs (suc k) (a ∷ []) e = absurd (omega arith)
 length_pairs (suc k) (a ∷ b ∷ bs) e = ap suc (length_pairs k bs (omega arith))
 
 -- bytes are their own low bytes
-pub low_bytes : (bs : List ℕ) → AllByRecursion (λ b. b < 256) bs → map low_byte bs ≡ bs
-low_bytes [] h = refl
-low_bytes (b ∷ bs) h = let small : b < 256 = h.0 in ap₂ ◌∷◌ (omega arith) (low_bytes bs h.1)
+map-low_byte : (bs : List ℕ) → AllByRecursion (λ b. b < 256) bs → map low_byte bs ≡ bs
+map-low_byte [] h = refl
+map-low_byte (b ∷ bs) h = let small : b < 256 = h.0 in ap₂ ◌∷◌ (omega arith) (map-low_byte bs h.1)
 
 pub length-row_bytes : (q : ℕ) (ys : List ℕ) → length (row_bytes q ys) ≡ length ys * symbol_bytes q
 length-row_bytes q ys = elim (cases_Bool (ltb 256 q)) [ inl t ↦ rw t (length-words ys) | inr f ↦ rw f (omega (arith, length-map ys low_byte)) ]
@@ -45,11 +45,11 @@ length-row_bytes q ys = elim (cases_Bool (ltb 256 q)) [ inl t ↦ rw t (length-w
 pub symbols-row : (q : ℕ) (ys : List ℕ) → AllByRecursion (λ y. y < q) ys → symbols q (row_bytes q ys) ≡ ys
 symbols-row q ys h = elim (cases_Bool (ltb 256 q)) [
   | inl t ↦ rw t (pairs-words ys)
-  | inr f ↦ rw f (low_bytes ys (All-weaker (λ y. y < q) (λ y. y < 256) (λ y small. omega (arith, ltb-false 256 q f)) ys h))
+  | inr f ↦ rw f (map-low_byte ys (All-weaker (λ y. y < q) (λ y. y < 256) (λ y small. omega (arith, ltb-false 256 q f)) ys h))
 ]
 
 pub row-symbols : (q k : ℕ) (bs : List ℕ) → length bs ≡ k * symbol_bytes q → AllByRecursion (λ b. b < 256) bs → row_bytes q (symbols q bs) ≡ bs
-row-symbols q k bs e h = elim (cases_Bool (ltb 256 q)) [ inl t ↦ rw t (words-pairs k bs (rw t at e) h) | inr f ↦ rw f (low_bytes bs h) ]
+row-symbols q k bs e h = elim (cases_Bool (ltb 256 q)) [ inl t ↦ rw t (words-pairs k bs (rw t at e) h) | inr f ↦ rw f (map-low_byte bs h) ]
 
 pub length_symbols : (q k : ℕ) (bs : List ℕ) → length bs ≡ k * symbol_bytes q → length (symbols q bs) ≡ k
 length_symbols q k bs e = elim (cases_Bool (ltb 256 q)) [
@@ -78,11 +78,3 @@ symbols-all q k bs e =
 -- a row of k symbols that is read from the bytes of k symbols is what those bytes are
 pub row_read : (q k : ℕ) (bs row : List ℕ) → ReadFrom q bs row → length row ≡ k → length bs ≡ k * symbol_bytes q → row ≡ symbols q bs
 row_read q k bs row is l e = is ∙ ap (symbols_in q bs) l ∙ symbols-all q k bs e
-
--- past the end all symbols are 0
-pub symbol_past : (q : ℕ) (bs : List ℕ) (s : ℕ) → length bs ≤ s → 0 ≡ symbol_at q bs s
-symbol_past q bs s h =
-    let a = get_or_past bs s 0 h in
-    let b = get_or_past bs (s * 2) 0 (omega arith) in
-    let e = get_or_past bs (s * 2 + 1) 0 (omega arith) in
-    elim (cases_Bool (ltb 256 q)) [ inl t ↦ rw t (omega arith) | inr f ↦ rw f (sym a) ]

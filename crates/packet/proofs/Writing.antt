@@ -1,11 +1,14 @@
--- Loops that write numbers and rows, and parts written one behind the other. Assumes nothing.
-use Rattle.std.proofs.Common.{◌≡◌, ℕ, ◌+◌, ◌-◌, ◌*◌, ◌/◌, ◌%◌, ◌<◌, ◌≤◌, List, [], ◌∷◌, ◌++◌, map, length, take, drop, set, sym, refl, ap, ◌∙◌, ap₂, arith}
+-- The loop that writes numbers, and parts written one behind the other. Assumes nothing.
+use Rattle.std.proofs.Common.{◌≡◌, ℕ, zero, suc, ◌+◌, ◌-◌, ◌*◌, ◌/◌, ◌%◌, ◌^◌, ◌<◌, ◌≤◌, ltb, List, [], ◌∷◌, ◌++◌, length, take, drop, sym, refl, ap, ◌∙◌, ap₂, inl, inr, add-mul, one-mul, arith}
+use Rattle.std.proofs.lemmas.Nat.{mul-le}
+use Rattle.std.specs.Int.{w16, to_be_bytes}
 use borrow.Rule.Slice.PartMut.{put_mid}
-use Rattle.std.proofs.lemmas.List.{append_assoc, length-set, take_all, take_at, take_more, take_more_set, drop_at, drop-drop, map_more}
-use Rattle.std.proofs.lemmas.List.FromFn.{map-range_with_len_more}
+use Rattle.std.proofs.lemmas.List.{append_assoc, take_at, take_more, drop_at, drop-drop, map-append}
+use Rattle.std.proofs.lemmas.Bool.{cases_Bool}
+use Rattle.std.proofs.lemmas.Slice.{take-put_mid}
 use Rattle.checks.specs.Checks.{at}
 use Rattle.code.specs.Plans.{PlanView}
-use Rattle.packet.specs.Bytes.{words, low_byte, row_bytes, symbol_at, symbols_in}
+use Rattle.packet.specs.Bytes.{words, low_byte, row_bytes, low_bytes}
 use Rattle.packet.specs.Layout.{mark, numbers, packet_length, laid}
 use Rattle.packet.specs.Writing.{written, Lays}
 use Rattle.packet.specs.declared.Job.{Job}
@@ -16,33 +19,35 @@ words_append : (ms ns : List ℕ) → words (ms ++ ns) ≡ words ms ++ words ns
 words_append [] ns = refl
 words_append (m ∷ ms) ns = ap (λ bs. (m / 256) ∷ (m % 256) ∷ bs) (words_append ms ns)
 
--- a loop has filled out
-pub filled : (out : List ℕ) (n : ℕ) {ys : List ℕ} → length out ≤ n → take n out ≡ ys → out ≡ ys
-filled out n h so = sym (take_all n out h) ∙ so
+low_bytes_append : (w : ℕ) (ms ns : List ℕ) → low_bytes w (ms ++ ns) ≡ low_bytes w ms ++ low_bytes w ns
+low_bytes_append w ms ns = elim (cases_Bool (ltb 1 w)) [ inl t ↦ rw t (words_append ms ns) | inr f ↦ rw f (map-append low_byte ms ns) ]
 
--- two bytes more are written
-pub words_more : (ns out : List ℕ) (i a b : ℕ) → i < length ns → length out ≡ length ns * 2
-    → a ≡ at ns i / 256 → b ≡ at ns i % 256 → take (i * 2) out ≡ words (take i ns)
-    → take ((i + 1) * 2) (set (set out (i * 2) a) (i * 2 + 1) b) ≡ words (take (i + 1) ns)
-words_more ns out i a b h fits ea eb so =
-    let two : (i + 1) * 2 ≡ i * 2 + 1 + 1 = omega arith in
-    let second = take_more_set (set out (i * 2) a) (i * 2 + 1) b (simp length-set (omega arith)) in
-    let front = take_more_set out (i * 2) a (omega arith) in
-    let more = take_more ns i 0 h in
-    let split = words_append (take i ns) (at ns i ∷ []) in
-    let joined = append_assoc (take (i * 2) out) (a ∷ []) (b ∷ []) in
-    cc
+-- what holds of one byte and of two holds of each width
+by_width : (P : ℕ → Type 0) → P 1 → P 2 → (w : ℕ) → 1 ≤ w → w ≤ 2 → P w
+by_width P one two zero some few = absurd (omega arith)
+by_width P one two (suc zero) some few = one
+by_width P one two (suc (suc zero)) some few = two
+by_width P one two (suc (suc (suc w))) some few = absurd (omega arith)
 
-pub low_bytes_more : (ys out : List ℕ) (i : ℕ) → i < length ys → length out ≡ length ys → take i out ≡ map low_byte (take i ys)
-    → take (i + 1) (set out i (low_byte (at ys i))) ≡ map low_byte (take (i + 1) ys)
-low_bytes_more ys out i h fits so =
-    take_more_set out i (low_byte (at ys i)) (omega arith) ∙ ap (λ bs. bs ++ low_byte (at ys i) ∷ []) so ∙ sym (map_more low_byte ys i 0 h)
+-- the last w bytes of a number of 16 bits
+last_bytes : (w n : ℕ) → 1 ≤ w → w ≤ 2 → n < 2 ^ 16 → take (2 - (2 - w)) (drop (2 - w) (to_be_bytes w16 n)) ≡ low_bytes w (n ∷ [])
+last_bytes w n some few small =
+    by_width (λ w. take (2 - (2 - w)) (drop (2 - w) (to_be_bytes w16 n)) ≡ low_bytes w (n ∷ []))
+    (ap₂ ◌∷◌ (omega arith) refl) (ap₂ ◌∷◌ (omega arith) (ap₂ ◌∷◌ (omega arith) refl)) w some few
 
--- a symbol more is read
-pub symbols_more : (q : ℕ) (bs row : List ℕ) (s y : ℕ) → s < length row → y ≡ symbol_at q bs s → take s row ≡ symbols_in q bs s
-    → take (s + 1) (set row s y) ≡ symbols_in q bs (s + 1)
-symbols_more q bs row s y h is so =
-    take_more_set row s y h ∙ ap₂ (λ ys y. ys ++ y ∷ []) so is ∙ sym (map-range_with_len_more (symbol_at q bs) 0 s s (omega arith))
+length-last : (w n : ℕ) → 1 ≤ w → w ≤ 2 → length (low_bytes w (n ∷ [])) ≡ w
+length-last w n = by_width (λ w. length (low_bytes w (n ∷ [])) ≡ w) refl refl w
+
+-- one number more is written
+pub low_bytes_more : (w : ℕ) (ns out part : List ℕ) (i : ℕ) → 1 ≤ w → w ≤ 2 → i < length ns → length out ≡ length ns * w → at ns i < 2 ^ 16
+    → part ≡ take (2 - (2 - w)) (drop (2 - w) (to_be_bytes w16 (at ns i))) → take (i * w) out ≡ low_bytes w (take i ns)
+    → take ((i + 1) * w) (put_mid (i * w) (i * w + w - i * w) out part) ≡ low_bytes w (take (i + 1) ns)
+low_bytes_more w ns out part i some few within fits small is so =
+    let last = is ∙ last_bytes w (at ns i) some few small in
+    let long = ap length last ∙ length-last w (at ns i) some few in
+    let front : i * w ≤ length out = omega (arith, mul-le i w (length ns) w (omega arith) (omega arith)) in
+    take-put_mid (i * w) (i * w + w - i * w) out part ((i + 1) * w) (omega (arith, long, add-mul i 1 w, one-mul w)) front
+    ∙ ap₂ ◌++◌ so last ∙ sym (low_bytes_append w (take i ns) (at ns i ∷ [])) ∙ ap (low_bytes w) (sym (take_more ns i 0 within))
 
 -- a part is written behind the front
 behind : (front part old : List ℕ) (a k e : ℕ) → length front ≡ a → a + k ≡ e

@@ -4,6 +4,7 @@
 --     pairs bs            the numbers that bytes are, two bytes each
 --     symbol_bytes q      the bytes that a symbol takes
 --     row_bytes q ys      the bytes of a row
+--     low_bytes w ns      the low w bytes of numbers
 --     symbols q bs        the row that bytes are
 --     symbol_at q bs s    symbol s of the bytes of a row
 --     symbols_in q bs k   the first k of them
@@ -37,6 +38,10 @@ low_byte y = y % 256
 -- the bytes of the row ys over a field of q; where a symbol takes one byte, it is the low one
 abbrev pub row_bytes : ℕ → List ℕ → List ℕ
 row_bytes q ys = cond (nat_lt 256 q) (words ys) (map low_byte ys)
+
+-- the low w bytes of each of the numbers ns, the high one first, for w of 1 or 2
+abbrev pub low_bytes : ℕ → List ℕ → List ℕ
+low_bytes w ns = cond (nat_lt 1 w) (words ns) (map low_byte ns)
 
 -- the row that the bytes bs are over a field of q
 abbrev pub symbols : ℕ → List ℕ → List ℕ

@@ -22,7 +22,7 @@ pub struct Job {
 }
 
 // An opened packet: its number, and the bytes of its row, a part of the bytes that were opened.
-#[derive(Clone, Copy)]
+#[derive(Clone, Copy, PartialEq, Debug)]
 pub enum Packet<'a> {
     Data { number: u16, row: &'a [u8] },
     Check { number: u16, row: &'a [u8] },
@@ -59,8 +59,7 @@ impl<'a> Packet<'a> {
         ensures { result ≡ (seen self.entry).number }
     {
         match self {
-            Packet::Data { number, row: _ } => number,
-            Packet::Check { number, row: _ } => number,
+            Packet::Data { number, .. } | Packet::Check { number, .. } => number,
         }
     }
 
@@ -68,8 +67,7 @@ impl<'a> Packet<'a> {
         ensures { result.now ≡ (seen self.entry).row }
     {
         match self {
-            Packet::Data { number: _, row } => row,
-            Packet::Check { number: _, row } => row,
+            Packet::Data { row, .. } | Packet::Check { row, .. } => row,
         }
     }
 }

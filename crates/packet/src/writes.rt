@@ -1,8 +1,8 @@
 // Writing a packet.
-ghost use Rattle.std.specs.Prelude.{◌≡◌, ℕ, ◌*◌, ◌≤◌, [], ◌∷◌, map, length};
+ghost use Rattle.std.specs.Prelude.{◌≡◌, ℕ, ◌*◌, ◌≤◌, length};
 ghost use Rattle.code.specs.Plans.{view};
-ghost use Rattle.packet.specs.Bytes.{words, low_byte, symbol_bytes, row_bytes};
-ghost use Rattle.packet.specs.Layout.{mark, numbers, packet_length};
+ghost use Rattle.packet.specs.Bytes.{symbol_bytes, row_bytes, low_bytes};
+ghost use Rattle.packet.specs.Layout.{numbers, row_count, packet_length};
 ghost use Rattle.packet.specs.Writing.{Lays, Writes};
 
 use crate::fault::PacketFault;
@@ -10,18 +10,25 @@ use crate::reads::symbol_bytes;
 use crate::{HEADER_LEN, Job, MARK, MARK_AT, NUMBER_AT};
 use code::plan::Plan;
 
+// The count of a row's bytes.
+fn row_count(plan: &Plan) -> usize
+    ensures { result ≡ row_count (view plan.now) }
+{
+    plan.row_len() * symbol_bytes(plan.size())
+}
+
 // The bytes of a packet of this plan.
 pub fn packet_len(plan: &Plan) -> usize
     ensures { result ≡ packet_length (view plan.now) }
 {
-    HEADER_LEN + plan.row_len() * symbol_bytes(plan.size())
+    HEADER_LEN + row_count(plan)
 }
 
 // The numbers of a header, in their order.
+// Kept: `as`, which is proved to lose nothing, where `try_from` would answer an error that can't come.
 fn header_numbers(plan: &Plan, job: Job, number: u16) -> [u16; 9]
     ensures { result ≡ numbers (view plan.now) job number }
 {
-    let count = plan.row_len() * symbol_bytes(plan.size());
     [
         number,
         plan.data_count() as u16,
@@ -31,41 +38,21 @@ fn header_numbers(plan: &Plan, job: Job, number: u16) -> [u16; 9]
         job.number,
         job.length,
         HEADER_LEN as u16,
-        count as u16,
+        row_count(plan) as u16,
     ]
 }
 
-// High byte first.
-fn word_bytes(number: u16) -> [u8; 2]
-    ensures { result ≡ words (number ∷ []) }
+// Writes the low `WIDTH` bytes of each number, the high one first.
+// Kept: by index, since after a loop over `chunks_exact_mut` a proof knows no byte that it wrote.
+#[tactic(auto, using(crate::proofs::Writing::low_bytes_more))]
+fn write_numbers<const WIDTH: usize>(numbers: &[u16], out: &mut [u8])
+    requires narrow { (1 ≤ WIDTH) × (WIDTH ≤ 2) }
+    requires fits { length out.old ≡ length numbers.now * WIDTH }
+    ensures { out.new ≡ low_bytes WIDTH numbers.now }
 {
-    [(number / 256) as u8, (number % 256) as u8]
-}
-
-fn write_mark(out: &mut [u8])
-    requires fits { length out.old ≡ length mark }
-    ensures { out.new ≡ mark }
-{
-    out.copy_from_slice(&MARK);
-}
-
-fn write_words(from: &[u16], out: &mut [u8])
-    requires fits { length out.old ≡ length from.now * 2 }
-    ensures { out.new ≡ words from.now }
-{
-    for i in 0..from.len() {
-        let [high, low] = word_bytes(from[i]);
-        out[i * 2] = high;
-        out[i * 2 + 1] = low;
-    }
-}
-
-fn write_low_bytes(row: &[u16], out: &mut [u8])
-    requires fits { length out.old ≡ length row.now }
-    ensures { out.new ≡ map low_byte row.now }
-{
-    for i in 0..row.len() {
-        out[i] = (row[i] % 256) as u8;
+    for (i, number) in numbers.iter().enumerate() {
+        let start = i * WIDTH;
+        out[start..start + WIDTH].copy_from_slice(&number.to_be_bytes()[2 - WIDTH..]);
     }
 }
 
@@ -74,9 +61,9 @@ fn write_row(size: u32, row: &[u16], out: &mut [u8])
     ensures { out.new ≡ row_bytes size row.now }
 {
     if symbol_bytes(size) == 2 {
-        write_words(row, out)
+        write_numbers::<2>(row, out)
     } else {
-        write_low_bytes(row, out)
+        write_numbers::<1>(row, out)
     }
 }
 
@@ -87,9 +74,9 @@ fn lay(plan: &Plan, job: Job, number: u16, row: &[u16], out: &mut [u8])
     ensures { Lays (view plan.now) job number row.now out.old out.new }
 {
     let len = packet_len(plan);
-    write_mark(&mut out[MARK_AT..NUMBER_AT]);
+    out[MARK_AT..NUMBER_AT].copy_from_slice(&MARK);
     let numbers = header_numbers(plan, job, number);
-    write_words(&numbers, &mut out[NUMBER_AT..HEADER_LEN]);
+    write_numbers::<2>(&numbers, &mut out[NUMBER_AT..HEADER_LEN]);
     write_row(plan.size(), row, &mut out[HEADER_LEN..len]);
 }
 

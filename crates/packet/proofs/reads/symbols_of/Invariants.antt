@@ -1,6 +1,7 @@
-use Rattle.std.proofs.Common.{◌≡◌, take}
-use Rattle.packet.specs.Bytes.{symbols_in}
+use Rattle.std.proofs.Common.{◌≡◌, ℕ, ◌<◌}
+use Rattle.checks.specs.Checks.{at}
+use Rattle.packet.specs.Bytes.{symbol_at}
 use Rattle.packet.proofs.reads.symbols_of.Given as goal
 
 abbrev pub invariant-loop-s : goal.invariant-loop-s
-invariant-loop-s l = take l.s l.row ≡ symbols_in l.size l.bytes l.s
+invariant-loop-s l = (k : ℕ) → k < l.s → at l.row k ≡ symbol_at l.size l.bytes k
