@@ -1,24 +1,12 @@
 -- The digits of a number, and the number that digits write. Assumes nothing.
-use Rattle.std.proofs.Common.{◌≡◌, ℕ, zero, suc, ◌+◌, ◌-◌, ◌*◌, ◌/◌, ◌%◌, ◌^◌, ◌<◌, ◌≤◌, List, [], ◌∷◌, ◌++◌, length, get_or, take, drop, set, sym, refl, ap, ◌∙◌, ap₂, pow-suc, add-one, arith}
+use Rattle.std.proofs.Common.{◌≡◌, ℕ, zero, suc, ◌+◌, ◌*◌, ◌/◌, ◌%◌, ◌^◌, ◌<◌, ◌≤◌, List, [], ◌∷◌, ◌++◌, length, get_or, take, drop, sym, refl, ap, ◌∙◌, ap₂, pow-suc, add-one, arith}
 use native.Mathlib.Nat.{pow-zero}
 use Rattle.std.proofs.lemmas.Nat.{div-mul-add, mod-mul-add, div-add-mod', div_below, mod_below}
 use Rattle.std.proofs.lemmas.Int.Digits.{number_push, number_more, number_after_append, number_after_ge}
 use Rattle.std.proofs.ByRecursion.{All-push, All-get_or}
-use Rattle.std.proofs.lemmas.List.{append_assoc, append-nil, drop_all, length_push, drop-set, take_more, take_all, take-append-drop}
+use Rattle.std.proofs.lemmas.List.{length_push, take_more, take_all, take-append-drop}
 use Rattle.std.specs.Int.Digits.{number_from_digits, number_from_digits_after, AllBelowBase}
 use Rattle.job.specs.Packing.{digits}
-
--- no digit is written yet
-pub digits_none : (b v w : ℕ) (xs : List ℕ) → v ≡ w → digits b (length xs) v ++ drop (length xs) xs ≡ digits b (length xs) w
-digits_none b v w xs is = rw (is, drop_all (length xs) xs (omega arith)) (append-nil (digits b (length xs) w))
-
--- the last digit is written first
-pub digits_write : (b t rest : ℕ) (xs : List ℕ) → 0 < t → t ≤ length xs
-    → digits b t rest ++ drop t xs ≡ digits b (t - 1) (rest / b) ++ drop (t - 1) (set xs (t - 1) (rest % b))
-digits_write b zero rest xs some within = absurd (omega arith)
-digits_write b (suc t) rest xs some within =
-    let e : suc t - 1 ≡ t = omega arith in
-    rw (e, drop-set xs t (rest % b) (omega arith), add-one) (append_assoc (digits b t (rest / b)) (rest % b ∷ []) (drop (suc t) xs))
 
 -- a front that writes n, and the digit behind it, write no more than the whole
 pub number-front : (b n : ℕ) (ds : List ℕ) (i : ℕ) → n ≡ number_from_digits b (take i ds) → 0 < b → i < length ds → n * b + get_or ds i 0 ≤ number_from_digits b ds

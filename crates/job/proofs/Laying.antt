@@ -1,14 +1,12 @@
 -- The symbols of a message, laid and lifted a byte at a time. Assumes nothing.
-use Rattle.std.proofs.Common.{◌≡◌, ℕ, ◌+◌, ◌-◌, ◌*◌, ◌<◌, ◌≤◌, leb, List, [], ◌∷◌, ◌++◌, length, get_or, take, drop, set, replicate, sym, ap, ◌∙◌, suc-mul, add-mul, one-mul, zero-mul, arith}
+use Rattle.std.proofs.Common.{◌≡◌, ℕ, ◌+◌, ◌-◌, ◌*◌, ◌<◌, ◌≤◌, leb, List, [], ◌∷◌, ◌++◌, length, take, drop, replicate, sym, ap, ◌∙◌, suc-mul, add-mul, one-mul, zero-mul, arith}
 use borrow.Rule.Slice.PartMut.{put_mid}
 use Rattle.std.proofs.lemmas.Nat.{mul-le}
-use Rattle.std.proofs.lemmas.List.FromFn.{length-map-range_with_len, map-range_with_len_more}
-use Rattle.std.proofs.lemmas.List.{append_assoc, length-append, length-take-le, length-drop, take_at, drop_at, get_or-take, take_more, drop_more, set_at, drop-replicate, flat_map_more}
+use Rattle.std.proofs.lemmas.List.{append_assoc, length-append, length-take-le, length-drop, take_at, drop_at, get_or-take, take_more, drop-replicate, flat_map_more}
 use Rattle.std.specs.List.{flat_map}
-use Rattle.std.specs.Int.Digits.{number_from_digits}
 use Rattle.checks.proofs.Lowest.{lowest_same}
 use Rattle.checks.specs.Checks.{at, lowest, too_large}
-use Rattle.job.specs.Packing.{digits, laid, slot, lifted}
+use Rattle.job.specs.Packing.{digits, laid, slot}
 use Rattle.job.proofs.Digits.{length_digits}
 
 -- one byte more takes k symbols more
@@ -29,13 +27,10 @@ length_joined b k (x ∷ xs) =
 pub length-slot : (k : ℕ) (message : List ℕ) (i : ℕ) → i * k + k ≤ length message → length (slot k message i) ≡ k
 length-slot k message i within = length-take-le k (drop (i * k) message) (omega (arith, length-drop (i * k) message))
 
-pub slot_is : (k : ℕ) (message : List ℕ) (i : ℕ) → take (i * k + k - i * k) (drop (i * k) message) ≡ slot k message i
-slot_is k message i = let w : i * k + k - i * k ≡ k = omega arith in rw w
-
 -- the symbols of one byte more are laid
-pub laid_more : (b k total : ℕ) (job ys : List ℕ) (i : ℕ) → i < length job → length job * k ≤ total → ys ≡ digits b k (at job i)
-    → put_mid (i * k) (i * k + k - i * k) (laid b k (take i job) total) ys ≡ laid b k (take (i + 1) job) total
-laid_more b k total job ys i within fits is =
+pub laid_more : (b k total : ℕ) (job message ys : List ℕ) (i : ℕ) → i < length job → length job * k ≤ total → length message ≡ total → message ≡ laid b k (take i job) total
+    → ys ≡ digits b (length (take (i * k + k - i * k) (drop (i * k) message))) (at job i) → put_mid (i * k) (i * k + k - i * k) message ys ≡ laid b k (take (i + 1) job) total
+laid_more b k total job message ys i within fits whole so is =
     let f = digits b k in
     let front = flat_map f (take i job) in
     let zeros : List ℕ = replicate (total - i * k) 0 in
@@ -44,18 +39,12 @@ laid_more b k total job ys i within fits is =
     let long : length front ≡ i * k = rw here at (length_joined b k (take i job)) in
     let width : i * k + k - i * k ≡ k = omega arith in
     let fewer : total - i * k - k ≡ total - (i + 1) * k = omega (arith, one_more i k) in
+    let filled : length (slot k message i) ≡ k = length-slot k message i (omega (arith, slot_end i (length job) k total within fits)) in
+    let last : ys ≡ f (at job i) = rw (width, filled) at is in
     let both : flat_map f (take (i + 1) job) ≡ front ++ ys =
-    ap (flat_map f) (take_more job i 0 within) ∙ sym (flat_map_more f [] (take i job) (at job i)) ∙ ap (λ zs. front ++ zs) (sym is) in
-    rw (here, more, width, take_at front zeros (i * k) long, drop_at front zeros (i * k) long, drop-replicate {X = ℕ} k (total - i * k) 0, fewer, both)
+    ap (flat_map f) (take_more job i 0 within) ∙ sym (flat_map_more f [] (take i job) (at job i)) ∙ ap (λ zs. front ++ zs) (sym last) in
+    rw (so, here, more, width, take_at front zeros (i * k) long, drop_at front zeros (i * k) long, drop-replicate {X = ℕ} k (total - i * k) 0, fewer, both)
     (sym (append_assoc front ys (replicate (total - (i + 1) * k) 0)))
-
--- one byte more is lifted
-pub lifted_more : (b k : ℕ) (message old : List ℕ) (i v : ℕ) → i < length old → v ≡ number_from_digits b (slot k message i)
-    → set (lifted b k message i ++ drop i old) i v ≡ lifted b k message (i + 1) ++ drop (i + 1) old
-lifted_more b k message old i v within is =
-    let f : ℕ → ℕ = λ j. number_from_digits b (slot k message j) in
-    rw (drop_more old i 0 within, set_at (lifted b k message i) (get_or old i 0) (drop (i + 1) old) v i (length-map-range_with_len f 0 i))
-    (rw (map-range_with_len_more f 0 i i (omega arith), is) (sym (append_assoc (lifted b k message i) (f i ∷ []) (drop (i + 1) old))))
 
 -- the front of a message has the symbols of the message
 pub large_front : (limit : ℕ) (message : List ℕ) (end : ℕ) → end ≤ length message

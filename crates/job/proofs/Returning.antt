@@ -1,7 +1,6 @@
 -- What is laid is lifted again, and what is lifted is laid again. Assumes nothing.
 use Rattle.std.proofs.Common.{◌≡◌, ℕ, zero, suc, ◌+◌, ◌-◌, ◌*◌, ◌^◌, ◌<◌, ◌≤◌, List, [], ◌∷◌, ◌++◌, length, take, drop, replicate, sym, refl, ap, ◌∙◌, ap₂, ⊎_elim, suc-mul, zero-mul, add-one, arith, take-add}
 use Rattle.std.proofs.lemmas.List.FromFn.{fill_by_all, length-map-range_with_len, map-range_with_len_more}
-use Rattle.std.proofs.lemmas.Int.Digits.{number_lt}
 use Rattle.std.proofs.ByRecursion.{All-append, All-get_or, All-from_get_or}
 use Rattle.std.proofs.lemmas.List.{append_assoc, length-append, length-drop, length-replicate, take_at, drop_at, drop-drop, take-append-drop, get_or-take, get_or-drop, get_or_append_left, get_or-append_right, get_or-replicate, get_or_past, flat_map_more}
 use Rattle.std.proofs.lemmas.Bool.{cases_lt}
@@ -70,9 +69,6 @@ module _ (b k total : ℕ) (some : 0 < b) (whole : b ^ k ≡ 256) where
     under_slot i below = All-from_get_or (λ d. d < b) (slot k message i) 0 (λ j h.
         let h' : j < k = rw (length-slot k message i (within i below)) at h in
         rw (get_or-take k (drop (i * k) message) j 0 h', get_or-drop (i * k) message j 0) (small (i * k + j) (omega (arith, slot_end i n k (n * k) below (omega arith)))))
-
-    pub slot-byte : (i : ℕ) → i < n → number_from_digits b (slot k message i) < 256
-    slot-byte i below = rw (length-slot k message i (within i below), whole) at (number_lt b (slot k message i) (under_slot i below))
 
     joined_lifted : (j : ℕ) → j ≤ n → flat_map (digits b k) (lifted b k message j) ≡ take (j * k) message
     joined_lifted zero le = rw (zero-mul k)

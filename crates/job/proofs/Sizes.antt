@@ -17,6 +17,3 @@ limit_power = by_size (λ b k. b ^ k ≡ 256) refl refl refl
 
 pub limit_least : (q : ℕ) → 2 ≤ symbol_limit q
 limit_least = by_size (λ b k. 2 ≤ b) (omega arith) (omega arith) (omega arith)
-
-pub symbols_least : (q : ℕ) → 1 ≤ symbols_a_byte q
-symbols_least = by_size (λ b k. 1 ≤ k) (omega arith) (omega arith) (omega arith)

@@ -7,14 +7,12 @@ ghost use Rattle.job.specs.Calls.{capacity_of, Packing, Unpacking};
 
 use crate::fault::JobFault;
 use crate::order::{check_job, check_message};
-use crate::slots::{lay, lift};
-use crate::symbols::{symbol_limit, symbols_a_byte};
+use crate::spread::Spread;
 use code::plan::Plan;
 
 pub mod fault;
 mod order;
-mod slots;
-mod symbols;
+mod spread;
 #[cfg(test)]
 mod tests;
 
@@ -22,7 +20,7 @@ mod tests;
 pub fn capacity(plan: &Plan) -> usize
     ensures { result ≡ capacity_of (view plan.now) }
 {
-    plan.message_len() / symbols_a_byte(plan.size())
+    plan.message_len() / Spread::over(plan.size()).count
 }
 
 // Packs a job into a message: the symbols of its bytes, then zeros.
@@ -30,8 +28,7 @@ pub fn pack(plan: &Plan, job: &[u8], message: &mut [u16]) -> Result<(), JobFault
     ensures { Packing plan.now job.now message.old message.new result }
 {
     check_job(plan, job.len(), message.len())?;
-    let size = plan.size();
-    lay(job, symbols_a_byte(size), symbol_limit(size), message);
+    Spread::over(plan.size()).lay(job, message);
     Ok(())
 }
 
@@ -40,7 +37,6 @@ pub fn unpack(plan: &Plan, message: &[u16], len: usize, job: &mut [u8]) -> Resul
     ensures { Unpacking plan.now message.now len job.old job.new result }
 {
     check_message(plan, message, len, job.len())?;
-    let size = plan.size();
-    lift(message, symbols_a_byte(size), symbol_limit(size), len, job);
+    Spread::over(plan.size()).lift(message, &mut job[..len]);
     Ok(())
 }

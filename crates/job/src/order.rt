@@ -1,13 +1,34 @@
 // The checks of packing and unpacking, in their order.
-ghost use Rattle.std.specs.Prelude.{◌≡◌};
+ghost use Rattle.std.specs.Prelude.{◌≡◌, ◌≤◌, length};
+ghost use Rattle.checks.specs.Checks.{lowest, too_large};
 ghost use Rattle.code.specs.Plans.{view};
-ghost use Rattle.job.specs.Calls.{pack_checks, unpack_checks, checked};
+ghost use Rattle.job.specs.Calls.{remains, pack_checks, unpack_checks, checked};
 
 use crate::capacity;
 use crate::fault::JobFault;
-use crate::slots::{first_rest, first_unfit};
-use crate::symbols::{symbol_limit, symbols_a_byte};
+use crate::spread::Spread;
+use checks::first_large;
 use code::plan::Plan;
+
+// The place of the first symbol of `limit` or more, before `end`.
+#[tactic(auto, using(crate::proofs::Laying::large_front))]
+pub(crate) fn first_unfit(message: &[u16], limit: u32, end: usize) -> Option<usize>
+    requires { end ≤ length message.now }
+    ensures { result ≡ lowest (too_large limit message.now) end }
+{
+    first_large(&message[..end], limit)
+}
+
+// The place of the first symbol that is not 0, from `start` on.
+pub(crate) fn first_rest(message: &[u16], start: usize) -> Option<usize>
+    requires { start ≤ length message.now }
+    ensures { result ≡ lowest (remains start message.now) (length message.now) }
+{
+    message[start..]
+        .iter()
+        .position(|symbol| *symbol != 0)
+        .map(|place| start + place)
+}
 
 // Of a job of so many bytes, and a message buffer of so many symbols.
 pub(crate) fn check_job(plan: &Plan, bytes: usize, symbols: usize) -> Result<(), JobFault>
@@ -44,9 +65,9 @@ pub(crate) fn check_message(
     if len > room {
         return Err(JobFault::Count(len));
     }
-    let size = plan.size();
-    let end = len * symbols_a_byte(size);
-    if let Some(place) = first_unfit(message, symbol_limit(size), end) {
+    let spread = Spread::over(plan.size());
+    let end = len * spread.count;
+    if let Some(place) = first_unfit(message, spread.limit, end) {
         return Err(JobFault::Symbol(place));
     }
     if let Some(place) = first_rest(message, end) {

@@ -1,7 +1,7 @@
 // Jobs of known bytes and their symbols.
 use crate::fault::JobFault;
-use crate::slots::{first_rest, first_unfit, lay};
-use crate::symbols::{join, symbol_limit, symbols_a_byte};
+use crate::order::{first_rest, first_unfit};
+use crate::spread::Spread;
 use crate::{capacity, pack, unpack};
 use code::plan::Plan;
 
@@ -19,10 +19,10 @@ fn the_unmade_plan_holds_no_byte(rt: HostRuntime) {
 
 #[test]
 fn a_byte_fills_one_symbol_where_it_fits(rt: HostRuntime) {
-    assert_eq!(rt; symbols_a_byte(256), 1);
-    assert_eq!(rt; symbol_limit(257), 256);
+    assert_eq!(rt; Spread::over(256).count, 1);
+    assert_eq!(rt; Spread::over(257).limit, 256);
     let mut message = [9; 5];
-    lay(&[1, 2, 255], 1, 256, &mut message);
+    Spread::over(256).lay(&[1, 2, 255], &mut message);
     assert_eq!(rt; message, [1, 2, 255, 0, 0]);
     assert_eq!(rt; first_unfit(&[256], 256, 1), Some(0));
     assert_eq!(rt; first_rest(&[1, 0, 3], 1), Some(2));
@@ -31,7 +31,8 @@ fn a_byte_fills_one_symbol_where_it_fits(rt: HostRuntime) {
 #[test]
 fn a_byte_fills_two_nibbles_high_one_first(rt: HostRuntime) {
     let mut message = [9; 5];
-    lay(&[0xAB, 0x0F], 2, 16, &mut message);
+    let nibbles = Spread::over(16);
+    nibbles.lay(&[0xAB, 0x0F], &mut message);
     assert_eq!(rt; message, [10, 11, 0, 15, 0]);
-    assert_eq!(rt; join(&[10, 11], 16), 0xAB);
+    assert_eq!(rt; nibbles.join(&[10, 11]), 0xAB);
 }

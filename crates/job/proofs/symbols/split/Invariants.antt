@@ -1,6 +1,0 @@
-use Rattle.std.proofs.Common.{◌≡◌, ◌++◌, length, drop}
-use Rattle.job.specs.Packing.{digits}
-use Rattle.job.proofs.symbols.split.Given as goal
-
-abbrev pub invariant-loop-t : goal.invariant-loop-t
-invariant-loop-t l = digits l.limit l.t l.rest ++ drop l.t l.symbols ≡ digits l.limit (length l.initial.symbols) l.byte
