@@ -1,5 +1,5 @@
 -- What packing and unpacking end with, once no check applies. Assumes nothing.
-use Rattle.std.proofs.Common.{◌≡◌, ℕ, ◌*◌, ◌^◌, ◌<◌, ◌≤◌, List, ◌++◌, length, take, drop, Some, None, Ok, Option, Result, sym, refl, ap, ◌∙◌, div-mul-le_self, arith}
+use Rattle.std.proofs.Common.{◌≡◌, ℕ, ◌*◌, ◌^◌, ◌<◌, ◌≤◌, List, ◌++◌, length, take, drop, None, Ok, Result, sym, ap, ◌∙◌, div-mul-le_self, arith}
 use Rattle.std.proofs.lemmas.Nat.{mul-le}
 use Rattle.std.proofs.lemmas.List.FromFn.{length-map-range_with_len}
 use Rattle.std.proofs.lemmas.List.{take_at, length-take-le}
@@ -9,22 +9,17 @@ use Rattle.std.specs.Int.Digits.{number_from_digits}
 use Rattle.std.specs.List.{AllByRecursion}
 use Rattle.std.proofs.ByRecursion.{All-from_get_or}
 use Rattle.checks.proofs.Lowest.{lowest_none, none_passes}
-use Rattle.checks.proofs.Order.{first_none, skip, unless_true, unless_none, mapped_none}
-use Rattle.checks.specs.Checks.{at, first, answered, left, lowest, too_large}
+use Rattle.checks.proofs.Order.{first_none, skip, unless_true, unless_none, mapped_none, answered_ok, left_none}
+use Rattle.checks.specs.Checks.{at, first, lowest, too_large}
 use Rattle.code.specs.Plans.{PlanView, view}
 use Rattle.code.specs.declared.plan.Plan.{Plan}
 use Rattle.job.specs.Calls.{total, capacity_of, remains, pack_checks, unpack_checks, checked, GivesBack, Packing, Unpacking}
-use Rattle.job.specs.Packing.{byte_values, symbols_a_byte, symbol_limit, laid, slot, lifted, packed, unpacked}
+use Rattle.job.specs.Packing.{byte_values, symbols_a_byte, symbol_limit, laid, slot, lifted, packed}
 use Rattle.job.specs.declared.fault.JobFault.{JobFault}
 use Rattle.job.specs.declared.fault.JobFault.TheVariants.{Symbol, Rest}
 use Rattle.job.proofs.Behind.{none_behind, zero_behind}
 use Rattle.job.proofs.Returning.{length-laid, laid_small, laid-zero, lifted-laid, laid-lifted}
 use Rattle.job.proofs.Sizes.{limit_power, limit_least}
-
--- a call is answered if no check applies
-passed : (o : Option JobFault) → ◌≡◌ {A = Result (Unit {0}) JobFault} (Ok tt) (answered o tt) → o ≡ None
-passed None ok = refl
-passed (Some f) ok = absurd (let z : ◌≡◌ {A = ℕ} 0 1 = cc in omega arith)
 
 -- what the capacity allows fits
 fits : (p : PlanView) (n : ℕ) → n ≤ capacity_of p → n * symbols_a_byte p.q ≤ total p
@@ -59,13 +54,13 @@ pub packing_done : (plan : Plan) (job old new : List ℕ) (b k : ℕ) → b ≡ 
     → ((i : ℕ) → at job i < byte_values) → new ≡ laid b k job (length old) → Packing plan job old new (Ok tt)
 packing_done plan job old new b k is_b is_k ok bytes is =
     let p = view plan in
-    let none = passed _ ok in
+    let none = (answered_ok _ _ _ ok).0 in
     let checks = first_none (pack_checks p (length job) (length old)) none in
     let long : length old ≡ total p = eqb-true _ _ (unless_none _ _ checks.0) in
     let whole : new ≡ packed p.q job (total p) = rw (is_b, is_k, long) at is in
     record {
-      answers = sym (ap (λ o. answered o tt) none);
-      leaves = whole ∙ sym (ap (λ o. left o old (packed p.q job (total p))) none);
+      answers = ok;
+      leaves = whole ∙ sym (left_none _ _ _ none);
       back = rw whole (given_back p job (leb-true _ _ (unless_none _ _ checks.1.0)) (All-from_get_or (λ v. v < byte_values) job 0 (λ i _. bytes i)));
     }
 
@@ -73,7 +68,7 @@ packing_done plan job old new b k is_b is_k ok bytes is =
 module _ (plan : Plan) (message old : List ℕ) (n b k : ℕ) (is_b : b ≡ symbol_limit (view plan).q) (is_k : k ≡ symbols_a_byte (view plan).q)
     (ok : ◌≡◌ {A = Result (Unit {0}) JobFault} (Ok tt) (checked (unpack_checks (view plan) message n (length old)))) where
   none : first (unpack_checks (view plan) message n (length old)) ≡ None
-  none = passed _ ok
+  none = (answered_ok _ _ _ ok).0
 
   checks : AllByRecursion (λ o. o ≡ None) (unpack_checks (view plan) message n (length old))
   checks = first_none (unpack_checks (view plan) message n (length old)) none
@@ -115,7 +110,7 @@ module _ (plan : Plan) (message old : List ℕ) (n b k : ℕ) (is_b : b ≡ symb
       let again : laid b k (take n new) (total (view plan)) ≡ message =
       ap (λ xs. laid b k xs (total (view plan))) front ∙ laid-lifted b k (total (view plan)) some whole message n long few small zeros in
       record {
-        answers = sym (ap (λ o. answered o tt) none);
-        leaves = (rw (is_b, is_k) at is) ∙ sym (ap (λ o. left o old (unpacked (view plan).q message n ++ drop n old)) none);
+        answers = ok;
+        leaves = (rw (is_b, is_k) at is) ∙ sym (left_none _ _ _ none);
         back = rw (is_b, is_k) at again;
       }

@@ -1,9 +1,9 @@
 -- What is laid is lifted again, and what is lifted is laid again. Assumes nothing.
-use Rattle.std.proofs.Common.{◌≡◌, ℕ, zero, suc, ◌+◌, ◌-◌, ◌*◌, ◌^◌, ◌<◌, ◌≤◌, List, [], ◌∷◌, ◌++◌, length, take, drop, replicate, sym, refl, ap, ◌∙◌, ap₂, ⊎_elim, suc-mul, zero-mul, add-one, arith, take-add}
+use Rattle.std.proofs.Common.{◌≡◌, ℕ, zero, suc, ◌+◌, ◌-◌, ◌*◌, ◌^◌, ◌<◌, ◌≤◌, List, [], ◌∷◌, ◌++◌, length, take, drop, replicate, sym, refl, ap, ◌∙◌, ap₂, suc-mul, zero-mul, add-one, arith, take-add}
 use Rattle.std.proofs.lemmas.List.FromFn.{fill_by_all, length-map-range_with_len, map-range_with_len_more}
 use Rattle.std.proofs.ByRecursion.{All-append, All-get_or, All-from_get_or}
-use Rattle.std.proofs.lemmas.List.{append_assoc, length-append, length-drop, length-replicate, take_at, drop_at, drop-drop, take-append-drop, get_or-take, get_or-drop, get_or_append_left, get_or-append_right, get_or-replicate, get_or_past, flat_map_more}
-use Rattle.std.proofs.lemmas.Bool.{cases_lt}
+use Rattle.std.proofs.lemmas.List.{append_assoc, length-append, length-drop, length-replicate, take_at, drop_at, drop-drop, take-append-drop, get_or-take, get_or-drop, get_or_append_left, get_or-append_right, flat_map_more}
+use Rattle.std.proofs.lemmas.Grind.{common_steps}
 use Rattle.std.specs.List.{flat_map, AllByRecursion}
 use Rattle.std.specs.Int.Digits.{number_from_digits, AllBelowBase}
 use Rattle.checks.proofs.Lowest.{same_places}
@@ -13,8 +13,7 @@ use Rattle.job.proofs.Digits.{length_digits, under_digits, number_digits, digits
 use Rattle.job.proofs.Laying.{slot_end, length-slot, length_joined}
 
 at_zeros : (n i : ℕ) → at (replicate n 0) i ≡ 0
-at_zeros n i =
-    ⊎_elim (λ (below : i < n). get_or-replicate n i 0 0 below) (λ (past : n ≤ i). get_or_past (replicate n 0) i 0 (omega (arith, length-replicate {A = ℕ} n 0))) (cases_lt i n)
+at_zeros n i = grind (arith, common_steps)
 
 -- the k symbols of byte i are its digits
 slot_joined : (b k : ℕ) (xs zs : List ℕ) (i : ℕ) → i < length xs → slot k (flat_map (digits b k) xs ++ zs) i ≡ digits b k (at xs i)
@@ -30,7 +29,7 @@ slot_joined b k (x ∷ xs) zs (suc i) within =
     ∙ ap (λ ys. slot k ys i) (drop_at first others k (length_digits b k x))
     ∙ slot_joined b k xs zs i (omega arith)
 
-under_joined : (b k : ℕ) (xs : List ℕ) → 0 < b → AllBelowBase b (flat_map (digits b k) xs)
+pub under_joined : (b k : ℕ) (xs : List ℕ) → 0 < b → AllBelowBase b (flat_map (digits b k) xs)
 under_joined b k [] pos = tt
 under_joined b k (x ∷ xs) pos = All-append (λ d. d < b) (digits b k x) (flat_map (digits b k) xs) (under_digits b k x pos) (under_joined b k xs pos)
 

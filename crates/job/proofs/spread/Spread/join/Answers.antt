@@ -16,10 +16,8 @@ fold-value-requires-clause-callable c =
     let whole : number_from_digits limit all < 256 = rw (c.requires.fits, c.args.self.whole) at (number_lt limit all c.requires.small) in
     serves_by _ (λ xs q. (q.0.0.now ≡ limit) × (q.1 ≡ number_from_digits limit (map (λ x. x.now) xs)))
     (λ xs q x v j r.
-    let more = map_push (λ x. x.now) xs x in
-    let number = number_push limit (map (λ x. x.now) xs) x.now in
     let called : (v.0.0.now ≡ q.0.0.now) × (v.1 ≡ q.1 * q.0.0.now + x.now) = search rules in
-    (called.0 ∙ j.0, cc)) _ _ _ _ (refl, refl)
+    (called.0 ∙ j.0, rw (map_push, number_push, ← j.1, ← j.0) called.1)) _ _ _ _ (refl, refl)
     (λ xs t q x u y e j.
     let road = YieldsList-from_slice all cc in
     let turn = YieldsList-turn road xs t y _ u x refl e in
