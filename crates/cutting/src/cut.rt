@@ -9,13 +9,12 @@ ghost use Rattle.cutting.specs.Cutting.{all_packets};
 ghost use Rattle.cutting.specs.Answers.{Answers, request_view_of, request_fault, request_packets, input_fault, input_packets};
 ghost use Rattle.cutting.specs.declared.cut.CutError.TheVariants.{Refused, Memory};
 
-use crate::packets::{cut_all, lay_all};
+use crate::packets::Cutter;
 use crate::plans::counted_plan;
 use crate::request::{FieldChoice, InputFault, Request, read_request};
 use binary::{ByteField, NibbleField};
 use checks::fault::Fault;
 use code::fault::PlanFault;
-use code::plan::Plan;
 use field::Field;
 use job::fault::JobFault;
 use job::pack;
@@ -66,26 +65,6 @@ impl From<AllocError> for CutError {
     }
 }
 
-// All packets of a message.
-fn cut_message<F: Field>(
-    heap: Global,
-    field: &F,
-    plan: &Plan,
-    job: Job,
-    message: &[u16],
-) -> Result<Vec<u8>, AllocError>
-    requires size { (F.ops field.now).size ≡ (view plan.now).q }
-    requires long { length message.now ≡ (view plan.now).m * (view plan.now).L }
-    requires element { AllByRecursion (λ x. x < (view plan.now).q) message.now }
-    ensures { IfOk result (λ v. v.items ≡ all_packets (F.ops field.now) (view plan.now) job message.now) }
-{
-    let mut buffer = vec![in heap; 0u16; plan.message_len()]?;
-    let sheet = lay_all(plan, message, buffer.as_mut_slice());
-    let packets = cut_all(heap, field, plan, job, &sheet);
-    let _ = sheet.into_buffer();
-    packets
-}
-
 // All packets of a job.
 fn cut_request<F: Field>(heap: Global, field: &F, request: &Request) -> Result<Vec<u8>, CutError>
     ensures { Answers (request_fault (F.ops field.now) (request_view_of request.now)) (request_packets (F.ops field.now) (request_view_of request.now)) result }
@@ -97,7 +76,12 @@ fn cut_request<F: Field>(heap: Global, field: &F, request: &Request) -> Result<V
         number: JOB_NUMBER,
         length: request.job.len() as u16,
     };
-    Ok(cut_message(heap, field, &plan, job, message.as_slice())?)
+    let cutter = Cutter {
+        field,
+        plan: &plan,
+        job,
+    };
+    Ok(cutter.cut_message(heap, message.as_slice())?)
 }
 
 // The packets that an input of the cutter asks for, in order, nothing between.

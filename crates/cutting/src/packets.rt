@@ -16,7 +16,7 @@ use std::alloc::{AllocError, Global};
 pub const MOST_PACKET_BYTES: usize = 276;
 
 // Lays each row of the message on a sheet, and closes it.
-pub(crate) fn lay_all<'a>(plan: &Plan, message: &[u16], buffer: &'a mut [u16]) -> ClosedSheet<'a>
+fn lay_all<'a>(plan: &Plan, message: &[u16], buffer: &'a mut [u16]) -> ClosedSheet<'a>
     requires long { length message.now ≡ (view plan.now).m * (view plan.now).L }
     requires fits { length buffer.old ≡ (view plan.now).m * (view plan.now).L }
     requires element { AllByRecursion (λ x. x < (view plan.now).q) message.now }
@@ -29,40 +29,59 @@ pub(crate) fn lay_all<'a>(plan: &Plan, message: &[u16], buffer: &'a mut [u16]) -
     sheet.close()
 }
 
-// Adds packet `number` to the packets in front of it.
-fn push_packet<F: Field>(
-    field: &F,
-    plan: &Plan,
-    job: Job,
-    sheet: &ClosedSheet,
-    number: usize,
-    out: &mut Vec<u8>,
-) -> Result<(), AllocError>
-    requires size { (F.ops field.now).size ≡ (view plan.now).q }
-    requires whole { Whole (view plan.now) (closed_view sheet.now) }
-    requires within { number < (view plan.now).m + (view plan.now).r }
-    ensures { OnOk result (out.new.items ≡ out.old.items ++ packet_of (F.ops field.now) (view plan.now) job (closed_view sheet.now).content number) }
-{
-    let mut room = [0; MOST_PACKET_BYTES];
-    let len = sheet.cut(plan, field, job, number, &mut room).unwrap();
-    out.extend_from_slice(&room[..len])
+// A job that is cut, over a field of the plan's size.
+#[derive(Drop)]
+pub(crate) struct Cutter<'a, F: Field> {
+    pub(crate) field: &'a F,
+    pub(crate) plan: &'a Plan,
+    pub(crate) job: Job,
+    ghost sized: { (F.ops field.now).size ≡ (view plan.now).q },
 }
 
-// Cuts every packet of a sheet.
-pub(crate) fn cut_all<F: Field>(
-    heap: Global,
-    field: &F,
-    plan: &Plan,
-    job: Job,
-    sheet: &ClosedSheet,
-) -> Result<Vec<u8>, AllocError>
-    requires size { (F.ops field.now).size ≡ (view plan.now).q }
-    requires whole { Whole (view plan.now) (closed_view sheet.now) }
-    ensures { IfOk result (λ v. v.items ≡ all_packets (F.ops field.now) (view plan.now) job (closed_view sheet.now).content) }
-{
-    let mut out = Vec::new(heap);
-    for number in 0..plan.packet_count() {
-        push_packet(field, plan, job, sheet, number, &mut out)?;
+impl<'a, F: Field> Cutter<'a, F> {
+    // Adds packet `number` of a sheet to the packets in front of it.
+    fn push_packet(
+        &self,
+        sheet: &ClosedSheet,
+        number: usize,
+        out: &mut Vec<u8>,
+    ) -> Result<(), AllocError>
+        requires whole { Whole (view self.now.plan.now) (closed_view sheet.now) }
+        requires within { number < (view self.now.plan.now).m + (view self.now.plan.now).r }
+        ensures { OnOk result (out.new.items ≡ out.old.items ++ packet_of (F.ops self.now.field.now)
+            (view self.now.plan.now) self.now.job (closed_view sheet.now).content number) }
+    {
+        let mut room = [0; MOST_PACKET_BYTES];
+        let len = sheet
+            .cut(self.plan, self.field, self.job, number, &mut room)
+            .unwrap();
+        out.extend_from_slice(&room[..len])
     }
-    Ok(out)
+
+    // Cuts every packet of a sheet.
+    fn cut_all(&self, heap: Global, sheet: &ClosedSheet) -> Result<Vec<u8>, AllocError>
+        requires whole { Whole (view self.now.plan.now) (closed_view sheet.now) }
+        ensures { IfOk result (λ v. v.items ≡ all_packets (F.ops self.now.field.now)
+            (view self.now.plan.now) self.now.job (closed_view sheet.now).content) }
+    {
+        let mut out = Vec::new(heap);
+        for number in 0..self.plan.packet_count() {
+            self.push_packet(sheet, number, &mut out)?;
+        }
+        Ok(out)
+    }
+
+    // All packets of a message.
+    pub(crate) fn cut_message(&self, heap: Global, message: &[u16]) -> Result<Vec<u8>, AllocError>
+        requires long { length message.now ≡ (view self.now.plan.now).m * (view self.now.plan.now).L }
+        requires element { AllByRecursion (λ x. x < (view self.now.plan.now).q) message.now }
+        ensures { IfOk result (λ v. v.items ≡ all_packets (F.ops self.now.field.now)
+            (view self.now.plan.now) self.now.job message.now) }
+    {
+        let mut buffer = vec![in heap; 0u16; self.plan.message_len()]?;
+        let sheet = lay_all(self.plan, message, buffer.as_mut_slice());
+        let packets = self.cut_all(heap, &sheet);
+        let _ = sheet.into_buffer();
+        packets
+    }
 }

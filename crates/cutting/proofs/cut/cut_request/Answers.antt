@@ -24,7 +24,6 @@ cut_message-requires g c =
     let sized : length c.as_mut_slice.result.now ≡ total p = c.as_mut_slice.ensures.len ∙ c.in_ok-message.ensures.len ∙ c.message_len.ensures.answers in
     let whole : c.as_slice.result.now ≡ c.pack.new.message = c.as_slice.ensures.value ∙ take_at _ _ _ (c.pack.auto.message ∙ c.as_mut_slice.ensures.len) in
     rw whole (record {
-      size = sym (ap (λ p. p.q) made.1);
       long = c.pack.auto.message ∙ sized;
       element = message-elements (g.F.Field.ops c.args.field.now) a c.in_ok-plan.plan made c.pack.result c.pack.ensures sized c.in_ok-pack.field-0 c.in_ok-pack.was;
     })
