@@ -1,10 +1,11 @@
 -- Numbers and rows as bytes, and back. Assumes nothing.
-use Rattle.std.proofs.Common.{◌≡◌, ℕ, zero, suc, ◌+◌, ◌*◌, ◌/◌, ◌%◌, ◌<◌, ltb, List, [], ◌∷◌, map, length, sym, refl, ap, ◌∙◌, ap₂, inl, inr, arith}
+use Rattle.std.proofs.Common.{◌≡◌, ℕ, zero, suc, ◌+◌, ◌*◌, ◌/◌, ◌%◌, ◌<◌, ◌≤◌, ltb, List, [], ◌∷◌, map, length, sym, refl, ap, ◌∙◌, ap₂, inl, inr, arith}
 use Rattle.std.specs.List.{AllByRecursion}
 use Rattle.std.proofs.lemmas.List.{length-map}
 use Rattle.std.proofs.ByRecursion.{All-weaker}
 use Rattle.std.proofs.lemmas.List.FromFn.{fill_by_all}
-use Rattle.std.proofs.lemmas.Bool.{cases_Bool, ltb-false}
+use Rattle.std.proofs.lemmas.Bool.{cases_Bool}
+use Rattle.std.proofs.lemmas.Bool.Decides.{nat_tests}
 use Rattle.checks.specs.Checks.{at}
 use Rattle.packet.specs.Bytes.{words, word, pairs, symbol_bytes, low_byte, row_bytes, symbols, symbol_at, symbols_in, ReadFrom}
 
@@ -39,23 +40,19 @@ map-low_byte [] h = refl
 map-low_byte (b ∷ bs) h = let small : b < 256 = h.0 in ap₂ ◌∷◌ (omega arith) (map-low_byte bs h.1)
 
 pub length-row_bytes : (q : ℕ) (ys : List ℕ) → length (row_bytes q ys) ≡ length ys * symbol_bytes q
-length-row_bytes q ys = elim (cases_Bool (ltb 256 q)) [ inl t ↦ rw t (length-words ys) | inr f ↦ rw f (omega (arith, length-map ys low_byte)) ]
+length-row_bytes q ys = grind (arith, nat_tests, length-words, length-map {A = ℕ} {B = ℕ})
 
 -- a row of elements is read back as it was
 pub symbols-row : (q : ℕ) (ys : List ℕ) → AllByRecursion (λ y. y < q) ys → symbols q (row_bytes q ys) ≡ ys
-symbols-row q ys h = elim (cases_Bool (ltb 256 q)) [
-  | inl t ↦ rw t (pairs-words ys)
-  | inr f ↦ rw f (map-low_byte ys (All-weaker (λ y. y < q) (λ y. y < 256) (λ y small. omega (arith, ltb-false 256 q f)) ys h))
-]
+symbols-row q ys h =
+    let below = λ (f : q ≤ 256). All-weaker (λ y. y < q) (λ y. y < 256) (λ y small. omega arith) ys h in
+    grind (arith, nat_tests, pairs-words, map-low_byte)
 
 pub row-symbols : (q k : ℕ) (bs : List ℕ) → length bs ≡ k * symbol_bytes q → AllByRecursion (λ b. b < 256) bs → row_bytes q (symbols q bs) ≡ bs
-row-symbols q k bs e h = elim (cases_Bool (ltb 256 q)) [ inl t ↦ rw t (words-pairs k bs (rw t at e) h) | inr f ↦ rw f (map-low_byte bs h) ]
+row-symbols q k bs e h = grind (arith, nat_tests, words-pairs k, map-low_byte)
 
 pub length_symbols : (q k : ℕ) (bs : List ℕ) → length bs ≡ k * symbol_bytes q → length (symbols q bs) ≡ k
-length_symbols q k bs e = elim (cases_Bool (ltb 256 q)) [
-  | inl t ↦ rw t (length_pairs k bs (rw t at e))
-  | inr f ↦ rw f (let g : length bs ≡ k * 1 = rw f at e in omega arith)
-]
+length_symbols q k bs e = grind (arith, nat_tests, length_pairs k)
 
 -- a number of two bytes by its place
 at_pairs : (bs : List ℕ) (s : ℕ) → s * 2 + 1 < length bs → at (pairs bs) s ≡ word bs (s * 2)

@@ -1,10 +1,10 @@
 -- The loop that writes numbers, and parts written one behind the other. Assumes nothing.
-use Rattle.std.proofs.Common.{◌≡◌, ℕ, zero, suc, ◌+◌, ◌-◌, ◌*◌, ◌/◌, ◌%◌, ◌^◌, ◌<◌, ◌≤◌, ltb, List, [], ◌∷◌, ◌++◌, length, take, drop, sym, refl, ap, ◌∙◌, ap₂, inl, inr, add-mul, one-mul, arith}
+use Rattle.std.proofs.Common.{◌≡◌, ℕ, zero, suc, ◌+◌, ◌-◌, ◌*◌, ◌/◌, ◌%◌, ◌^◌, ◌<◌, ◌≤◌, List, [], ◌∷◌, ◌++◌, length, take, drop, sym, refl, ap, ◌∙◌, ap₂, add-mul, one-mul, arith}
 use Rattle.std.proofs.lemmas.Nat.{mul-le}
 use Rattle.std.specs.Int.{w16, to_be_bytes}
 use borrow.Rule.Slice.PartMut.{put_mid}
 use Rattle.std.proofs.lemmas.List.{append_assoc, take_at, take_more, drop_at, drop-drop, map-append}
-use Rattle.std.proofs.lemmas.Bool.{cases_Bool}
+use Rattle.std.proofs.lemmas.Bool.Decides.{nat_tests}
 use Rattle.std.proofs.lemmas.Slice.{take-put_mid}
 use Rattle.checks.specs.Checks.{at}
 use Rattle.code.specs.Plans.{PlanView}
@@ -20,7 +20,7 @@ words_append [] ns = refl
 words_append (m ∷ ms) ns = ap (λ bs. (m / 256) ∷ (m % 256) ∷ bs) (words_append ms ns)
 
 low_bytes_append : (w : ℕ) (ms ns : List ℕ) → low_bytes w (ms ++ ns) ≡ low_bytes w ms ++ low_bytes w ns
-low_bytes_append w ms ns = elim (cases_Bool (ltb 1 w)) [ inl t ↦ rw t (words_append ms ns) | inr f ↦ rw f (map-append low_byte ms ns) ]
+low_bytes_append w ms ns = grind (arith, nat_tests, words_append, map-append low_byte)
 
 -- what holds of one byte and of two holds of each width
 by_width : (P : ℕ → Type 0) → P 1 → P 2 → (w : ℕ) → 1 ≤ w → w ≤ 2 → P w
