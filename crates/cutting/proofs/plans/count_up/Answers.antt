@@ -1,5 +1,4 @@
-use Rattle.std.proofs.Common.{rules, ◌≡◌, ℕ, ◌<◌}
-use Rattle.checks.specs.Checks.{at}
+use Rattle.std.proofs.Common.{rules}
 use Rattle.cutting.proofs.Counting.{all_counted}
 use Rattle.cutting.proofs.plans.count_up.Goals as goal
 

@@ -1,5 +1,4 @@
 use Rattle.std.proofs.Common.{◌≡◌, take, drop, Err, ap, ◌∙◌, subst, sym, arith}
-use Rattle.std.specs.List.{range_with_len}
 use Rattle.std.proofs.lemmas.Result.{err_from_is_err_and}
 use Rattle.code.proofs.Makes.{ranges}
 use Rattle.cutting.specs.Cutting.{Planned, cutter_checks, cutter_plan}
