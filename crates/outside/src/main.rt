@@ -9,16 +9,19 @@ use std::alloc::{AllocError, Global};
 use std::io;
 use std::io::{BufRead, BufReader, Write};
 
-// The bytes of all words of a line.
-fn line_bytes(heap: Global, line: &str) -> Result<Option<Vec<u8>>, AllocError> {
-    let mut all = Vec::new(heap);
-    for word in line.split(' ') {
-        let Some(bytes) = bytes_in(heap, word)? else {
-            return Ok(None);
-        };
-        all.extend_from_slice(bytes.as_slice())?;
+// The bytes that the digits of a line write, two a byte; the parts of a line are not told apart.
+fn line_bytes(heap: Global, line: &str) -> Result<Vec<u8>, AllocError> {
+    let mut digits: String = line
+        .chars()
+        .filter(|c| matches!(c, '0'..='9' | 'a'..='f'))
+        .collect(heap)?;
+    if digits.len() % 2 == 1 {
+        digits.pop();
     }
-    Ok(Some(all))
+    match bytes_in(heap, digits.as_str())? {
+        Some(bytes) => Ok(bytes),
+        None => Ok(Vec::new(heap)),
+    }
 }
 
 // All packets of a job have the length that the first header tells.
@@ -33,9 +36,7 @@ fn print_packets(rt: &HostRuntime, packets: &[u8]) -> io::Result<()> {
 }
 
 fn cut_line(rt: &HostRuntime, line: &str) -> io::Result<()> {
-    let Some(input) = line_bytes(rt.alloc(), line)? else {
-        return eprintln!(rt; "no bytes in hex: {line}");
-    };
+    let input = line_bytes(rt.alloc(), line)?;
     match cut_input(rt.alloc(), input.as_slice()) {
         Ok(packets) => print_packets(rt, packets.as_slice()),
         Err(CutError::Refused(fault)) => println!(rt; "refused {fault}"),
