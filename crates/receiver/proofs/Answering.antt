@@ -1,8 +1,8 @@
 -- How a reading and a rebuild of the machine are shown of code. Assumes nothing.
-use Rattle.std.proofs.Common.{◌≡◌, ℕ, ◌+◌, ◌*◌, ◌<◌, ◌==◌, true, List, [], ◌∷◌, ◌++◌, length, drop, is_some, Some, None, Ok, Err, Option, Result, unwrap_or, ap, ◌∙◌}
-use Rattle.std.proofs.lemmas.Bool.{eqb-true, eq-eqb, ltb-true}
+use Rattle.std.proofs.Common.{◌≡◌, ℕ, true, List, [], ◌∷◌, ◌++◌, drop, is_some, Some, None, Ok, Err, Option, Result, unwrap_or, ap, ◌∙◌}
+use Rattle.std.proofs.lemmas.Bool.{eq-eqb}
 use Rattle.checks.specs.Checks.{unless, first, answered}
-use Rattle.checks.proofs.Order.{unless_none, unless_true, first_none, skip, stop, answered_ok, answered_err}
+use Rattle.checks.proofs.Order.{unless_true, skip, answered_ok, answered_err}
 use Rattle.code.specs.Plans.{PlanView}
 use Rattle.code.specs.Rows.{Explains}
 use Rattle.code.proofs.Views.{sound_of}
@@ -13,22 +13,11 @@ use Rattle.receiver.specs.Examining.{Knows, read_front, rebuild_front}
 use Rattle.receiver.specs.Machine.{read, rebuild, filled, wrote, refuses, State, count, settled, known, Outcome, decided, read_checks, rebuild_checks, Step}
 use Rattle.receiver.specs.Receivers.{plan_of, job_of, state_of}
 use Rattle.receiver.specs.declared.fault.ReceiverFault.{ReceiverFault}
-use Rattle.receiver.specs.declared.fault.ReceiverFault.TheVariants.{OtherField, TooFew}
+use Rattle.receiver.specs.declared.fault.ReceiverFault.TheVariants.{TooFew}
 use Rattle.receiver.specs.declared.receiver.Receiver.{Receiver}
 use Rattle.receiver.proofs.Fields.{reached_by}
 use Rattle.receiver.proofs.Judging.{first_stop, first-last}
 use Rattle.receiver.proofs.Settled.{fitting}
-
--- where no check of a reading applies, the buffer is as long as the message, and m are accepted
-pub read_clear : (p : PlanView) (s : State) (buffer : List ℕ) (u : Unit {0}) → Ok u ≡ answered (first (read_front p s buffer)) tt
-    → (length buffer ≡ p.m * p.L) × (settled p s ≡ true)
-read_clear p s buffer u ok =
-    let clear = first_none (read_front p s buffer) (answered_ok _ u tt ok).0 in
-    (eqb-true _ _ (unless_none _ _ clear.0), unless_none _ _ clear.1.0)
-
--- where none before the last of a rebuild does, the number is one of the plan
-pub rebuild_clear : (p : PlanView) (n : ℕ) (buffer : List ℕ) (u : Unit {0}) → Ok u ≡ answered (first (rebuild_front p n buffer)) tt → n < p.m + p.r
-rebuild_clear p n buffer u ok = ltb-true _ _ (unless_none _ _ (first_none (rebuild_front p n buffer) (answered_ok _ u tt ok).0).0)
 
 module _ (o : Ops) (lawful : Lawful o) (r : Receiver) where
   abbrev p : PlanView
@@ -54,9 +43,6 @@ module _ (o : Ops) (lawful : Lawful o) (r : Receiver) where
         let (M, fits) = message in
         record { M = M; fits = fits; ruled = ap (λ x. decided x buffer s (reading M)) (is M) }
 
-    pub read-field : (f : ReceiverFault) → unless (o.size == p.q) (OtherField p.q) ≡ Some f → Step o p j s (read buffer) (refuses f) buffer s
-    read-field f e = read_refused f (λ M. stop _ _ _ e)
-
     module _ (size : o.size ≡ p.q) where
       behind : (M : List ℕ) → first (read_checks o p j M s buffer) ≡ first (read_front p s buffer)
       behind M = skip _ _ (unless_true _ _ (eq-eqb o.size p.q size))
@@ -64,14 +50,6 @@ module _ (o : Ops) (lawful : Lawful o) (r : Receiver) where
       pub read-front : (f : ReceiverFault) → ◌≡◌ {A = Result (Unit {0}) ReceiverFault} (Err f) (answered (first (read_front p s buffer)) tt)
           → Step o p j s (read buffer) (refuses f) buffer s
       read-front f e = read_refused f (λ M. behind M ∙ answered_err _ f tt e)
-
-      pub reads : (u : Unit {0}) → Ok u ≡ answered (first (read_front p s buffer)) tt
-          → (M : List ℕ) → Explains o p M s.stored → Step o p j s (read buffer) filled M s
-      reads u ok M explains = record {
-        M = M;
-        fits = λ _ _. explains;
-        ruled = ap (λ x. decided x buffer s (reading M)) (behind M ∙ (answered_ok _ u tt ok).0);
-      }
 
   -- rebuilds of number n
   module _ (n : ℕ) (buffer : List ℕ) where
@@ -83,9 +61,6 @@ module _ (o : Ops) (lawful : Lawful o) (r : Receiver) where
     rebuild_refused f is =
         let (M, fits) = message in
         record { M = M; fits = fits; ruled = ap (λ x. decided x buffer s (writing (known o p M s n))) (is M fits) }
-
-    pub rebuild-field : (f : ReceiverFault) → unless (o.size == p.q) (OtherField p.q) ≡ Some f → Step o p j s (rebuild n buffer) (refuses f) buffer s
-    rebuild-field f e = rebuild_refused f (λ M _. stop _ _ _ e)
 
     module _ (size : o.size ≡ p.q) where
       last_too : (M : List ℕ) → first (rebuild_checks o p j M s n buffer)

@@ -1,22 +1,21 @@
 -- Which check of offered bytes decides, before they are compared with what is accepted. Assumes nothing.
-use Rattle.std.proofs.Common.{◌≡◌, ℕ, ◌+◌, ◌<◌, ◌≤◌, List, [], ◌∷◌, length, drop, Some, None, Ok, Err, Option, sym, ap, ◌∙◌, subst, arith}
+use Rattle.std.proofs.Common.{◌≡◌, ℕ, ◌+◌, ◌<◌, List, [], ◌∷◌, length, drop, Some, None, Ok, Err, Option, sym, ap, ◌∙◌, subst, arith}
 use Rattle.std.specs.Option.{option_map}
 use Rattle.std.proofs.lemmas.List.{length-drop}
-use Rattle.std.proofs.lemmas.Bool.{eqb-true, lt-ltb, ltb-true, le-ltb}
+use Rattle.std.proofs.lemmas.Bool.{eqb-true, lt-ltb}
 use Rattle.checks.specs.Checks.{first, answered, lowest, too_large}
-use Rattle.checks.proofs.Order.{unless_none, unless_true, unless_false, first_none, skip, stop, mapped_none, answered_ok}
+use Rattle.checks.proofs.Order.{unless_none, unless_true, first_none, skip, stop, mapped_none}
 use Rattle.code.specs.Plans.{PlanView}
 use Rattle.packet.specs.Bytes.{word, ReadFrom}
 use Rattle.packet.specs.Layout.{header_length, number_at, Headed, carried}
 use Rattle.packet.specs.Opening.{opening}
 use Rattle.packet.specs.declared.Job.{Job}
-use Rattle.packet.specs.declared.fault.PacketFault.{PacketFault}
 use Rattle.packet.proofs.Numbers.{row_read}
 use Rattle.packet.proofs.Opening.{opens-headed}
 use Rattle.receiver.specs.Examining.{front_checks, Examined}
 use Rattle.receiver.specs.Machine.{job_checks}
 use Rattle.receiver.specs.declared.fault.ReceiverFault.{ReceiverFault}
-use Rattle.receiver.specs.declared.fault.ReceiverFault.TheVariants.{Packet as InPacket, Symbol, Number, OtherJob}
+use Rattle.receiver.specs.declared.fault.ReceiverFault.TheVariants.{Packet as InPacket, Symbol, OtherJob}
 
 module _ (p : PlanView) (j : Job) (bs : List ℕ) where
   abbrev here : Option ReceiverFault
@@ -24,9 +23,6 @@ module _ (p : PlanView) (j : Job) (bs : List ℕ) where
 
   refused : (f : ReceiverFault) (row : List ℕ) → here ≡ Some f → Examined p j bs (Err f) row
   refused f row e = record { answers = sym (ap (λ x. answered x (word bs number_at)) e); reads = λ n. absurd (cc (n, e)) }
-
-  pub not_opened : (row : List ℕ) (f : PacketFault) → opening bs ≡ Some f → Examined p j bs (Err (InPacket f)) row
-  not_opened row f e = refused (InPacket f) row (stop _ _ _ (ap (option_map InPacket) e))
 
   module _ (opens : opening bs ≡ None) where
     opened : (os : List (Option ReceiverFault)) → first (option_map InPacket (opening bs) ∷ os) ≡ first os
@@ -52,10 +48,6 @@ module _ (p : PlanView) (j : Job) (bs : List ℕ) where
           row_read p.q p.L (drop header_length bs) row (subst (λ xs. ReadFrom p.q xs row) is read) long
           (length-drop header_length bs ∙ omega (arith, headed.long))
 
-      pub no_number : (row : List ℕ) (n : ℕ) → n ≡ word bs number_at → p.m + p.r ≤ n → Examined p j bs (Err (Number n)) row
-      no_number row n is large = refused (Number n) row (opened _ ∙ job _
-          ∙ rw (← is) (stop _ _ _ (unless_false _ _ (le-ltb n (p.m + p.r) large))))
-
       module _ (n : ℕ) (is : n ≡ word bs number_at) (inside : n < p.m + p.r) (row : List ℕ) (read : row ≡ (carried p bs).row) where
         to_symbols : here ≡ first (option_map Symbol (lowest (too_large p.q row) (length row)) ∷ [])
         to_symbols = rw read (opened _ ∙ job _ ∙ skip _ _ (unless_true _ _ (lt-ltb (word bs number_at) (p.m + p.r) (omega arith))))
@@ -67,9 +59,3 @@ module _ (p : PlanView) (j : Job) (bs : List ℕ) where
         passes e =
             let none : here ≡ None = to_symbols ∙ skip _ _ (ap (option_map Symbol) (sym e)) in
             record { answers = rw none (ap Ok is); reads = λ _. read }
-
--- what passes has a number of the plan
-pub number_within : (p : PlanView) (j : Job) (bs : List ℕ) (n : ℕ) (row : List ℕ) → Examined p j bs (Ok n) row → n < p.m + p.r
-number_within p j bs n row examined =
-    let ok = answered_ok _ _ _ examined.answers in
-    rw ok.1 (ltb-true _ _ (unless_none _ _ (first_none (front_checks p j bs) ok.0).1.1.0))

@@ -1,8 +1,8 @@
 -- Which check of an offer decides, whatever the message. Assumes nothing.
-use Rattle.std.proofs.Common.{◌≡◌, ℕ, true, List, [], ◌∷◌, ◌++◌, ◌==◌, Some, None, Ok, Err, Option, Result, sym, refl, ap, ◌∙◌, subst, arith}
+use Rattle.std.proofs.Common.{◌≡◌, ℕ, true, List, [], ◌∷◌, ◌++◌, Some, None, Ok, Err, Option, Result, sym, refl, ap, ◌∙◌, subst}
 use Rattle.std.proofs.lemmas.Bool.{false≢true, eq-eqb}
-use Rattle.checks.specs.Checks.{unless, first, answered}
-use Rattle.checks.proofs.Order.{unless_true, skip, stop, answered_ok, answered_err}
+use Rattle.checks.specs.Checks.{first, answered}
+use Rattle.checks.proofs.Order.{unless_true, skip, answered_ok, answered_err}
 use Rattle.code.specs.Plans.{PlanView}
 use Rattle.code.specs.Rows.{Explains}
 use Rattle.field.specs.Field.{Ops}
@@ -12,7 +12,6 @@ use Rattle.packet.specs.declared.Job.{Job}
 use Rattle.receiver.specs.Examining.{front_checks, Examined, Judges, Judged}
 use Rattle.receiver.specs.Machine.{State, settled, heard, known, against, offer_checks}
 use Rattle.receiver.specs.declared.fault.ReceiverFault.{ReceiverFault}
-use Rattle.receiver.specs.declared.fault.ReceiverFault.TheVariants.{OtherField}
 use Rattle.receiver.proofs.Stored.{packet_is}
 
 -- a check behind others decides if none of them does
@@ -31,9 +30,6 @@ first-last (Some a ∷ os) x e = cc
 module _ (o : Ops) (p : PlanView) (j : Job) (s : State) (bs : List ℕ) where
   refused : (f : ReceiverFault) (row : List ℕ) → ((M : List ℕ) → first (offer_checks o p j M s bs) ≡ Some f) → Judged o p j s bs (Err f) row
   refused f row is = record { answers = λ M _. sym (ap (λ x. answered x (word bs number_at)) (is M)); reads = λ e. absurd (false≢true e) }
-
-  pub judged_field : (f : ReceiverFault) (row : List ℕ) → unless (o.size == p.q) (OtherField p.q) ≡ Some f → Judged o p j s bs (Err f) row
-  judged_field f row e = refused f row (λ M. stop _ _ _ e)
 
   module _ (size : o.size ≡ p.q) where
     behind : (M : List ℕ) → first (offer_checks o p j M s bs)

@@ -1,5 +1,5 @@
 -- What a receiver knows of a row, by its fields. Assumes nothing.
-use Rattle.std.proofs.Common.{◌≡◌, ℕ, zero, suc, ◌+◌, ◌*◌, ◌<◌, ◌≤◌, min, true, false, List, [], ◌∷◌, map, length, get_or, take, Some, None, Option, sym, refl, ap, ◌∙◌, arith}
+use Rattle.std.proofs.Common.{◌≡◌, ℕ, zero, suc, ◌*◌, ◌<◌, ◌≤◌, min, true, false, List, [], ◌∷◌, map, length, get_or, take, Some, None, Option, sym, refl, ap, ◌∙◌, arith}
 use Rattle.std.specs.List.{range_with_len}
 use Rattle.std.proofs.lemmas.Nat.{mul-le}
 use Rattle.std.proofs.lemmas.List.FromFn.{length-map-range_with_len, get_or-map-range_with_len}
@@ -17,7 +17,6 @@ use Rattle.receiver.specs.Solves.{packets, Given, Lacks, First, RowOf}
 use Rattle.receiver.specs.declared.receiver.Receiver.{Receiver}
 use Rattle.receiver.proofs.Fields.{few, settled_fields}
 use Rattle.receiver.proofs.Known.{known_is}
-use Rattle.receiver.proofs.Reaches.{shelf_end}
 use Rattle.receiver.proofs.Stored.{same_map, packet_is, row_same}
 
 -- the first packet with the number is found
@@ -109,9 +108,6 @@ module _ (r : Receiver) where
     length_front = length-take-le k r.numbers (few r)
 
     module _ (t : ℕ) (has : First (take k r.numbers) n t) where
-      pub within_shelf : t * p.L + p.L ≤ 8192
-      within_shelf = shelf_end t p.L (omega (arith, has.within, length_front, all-stored, r.plan.few_data)) r.plan.few_symbols
-
       pub knows_stored : Knows o p (state_of r) n (Some (row_on shelf t p.L))
       knows_stored =
           let l : t < k = omega (arith, has.within, length_front) in

@@ -3,17 +3,17 @@ use Rattle.std.proofs.Common.{◌≡◌, ℕ, ◌+◌, ◌<◌, List, [], ◌∷
 use Rattle.std.specs.List.{AllByRecursion}
 use Rattle.std.proofs.ByRecursion.{All-push}
 use Rattle.std.proofs.lemmas.List.{take_more}
-use Rattle.code.specs.Plans.{PlanView, Sound}
-use Rattle.field.specs.Field.{Ops, Lawful}
+use Rattle.code.specs.Plans.{PlanView}
+use Rattle.field.specs.Field.{Ops}
 use Rattle.packet.specs.declared.Job.{Job}
-use Rattle.receiver.specs.Calls.{event, events, Alike, AllAlike, Makes, Ran}
+use Rattle.receiver.specs.Calls.{event, events, Alike, AllAlike, Makes}
 use Rattle.receiver.specs.Machine.{opened, Step}
 use Rattle.receiver.specs.Receivers.{plan_of, job_of, state_of, Keeps}
 use Rattle.receiver.specs.Runs.{Bytes, Runs}
 use Rattle.receiver.specs.declared.receiver.Receiver.{Receiver}
 use Rattle.receiver.specs.declared.run.Call.{Call}
 use Rattle.receiver.specs.declared.run.Done.{Done}
-use Rattle.receiver.proofs.Replays.{runs_push, promised}
+use Rattle.receiver.proofs.Replays.{runs_push}
 
 -- the calls cs were made, ds were done, and the receiver is r now
 pub record Going (o : Ops) (p : PlanView) (j : Job) (cs : List Call) (ds : List Done) (r : Receiver) : Type 0 where
@@ -36,10 +36,6 @@ events_push (b ∷ cs) [] c d h = absurd h
 events_push (b ∷ cs) (e ∷ ds) c d h = ap (λ es. event b e ∷ es) (events_push cs ds c d h.1)
 
 module _ (o : Ops) (p : PlanView) (j : Job) where
-  -- no call yet
-  pub going_none : (r : Receiver) → plan_of r ≡ p → job_of r ≡ j → state_of r ≡ opened → Going o p j [] [] r
-  going_none r plan job state = record { plan = plan; job = job; alike = tt; bytes = tt; run = sym state }
-
   -- one call more
   going_push : (cs : List Call) (ds : List Done) (r t : Receiver) (c : Call) (d : Done) → Going o p j cs ds r → Makes o r c d t → Keeps r t
       → Going o p j (cs ++ c ∷ []) (ds ++ d ∷ []) t
@@ -61,11 +57,3 @@ module _ (o : Ops) (p : PlanView) (j : Job) where
   going_more cs i ds es r t c d within read pushed going makes keeps =
       let more : take (i + 1) cs ≡ take i cs ++ c ∷ [] = take_more cs i c within ∙ ap (λ x. take i cs ++ x ∷ []) (sym read) in
       rw (more, pushed) (going_push (take i cs) ds r t c d going makes keeps)
-
-  -- the promise is kept
-  pub ran : Lawful o → Sound p → (cs : List Call) (ds : List Done) (r : Receiver) → Going o p j cs ds r → Ran o p j cs ds
-  ran lawful sound cs ds r going = record {
-    alike = going.alike;
-    last = state_of r;
-    promised = promised o lawful p sound j (events cs ds) going.bytes (state_of r) going.run;
-  }

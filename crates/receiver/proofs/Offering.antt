@@ -1,8 +1,6 @@
 -- How an offer of the machine is shown of code. Assumes nothing.
-use Rattle.std.proofs.Common.{◌≡◌, ℕ, ◌<◌, true, List, None, Ok, Err, sym, refl, ap, ◌∙◌, arith, w8, Fits}
-use Rattle.std.specs.List.{AllByRecursion}
-use Rattle.std.proofs.ByRecursion.{All-from_get_or}
-use Rattle.checks.specs.Checks.{at, first}
+use Rattle.std.proofs.Common.{◌≡◌, ℕ, true, List, None, Ok, Err, sym, refl, ap, ◌∙◌}
+use Rattle.checks.specs.Checks.{first}
 use Rattle.checks.proofs.Order.{answered_ok, answered_err}
 use Rattle.code.specs.Plans.{PlanView}
 use Rattle.code.specs.Rows.{Explains}
@@ -19,10 +17,6 @@ use Rattle.receiver.specs.declared.receiver.Receiver.{Receiver}
 use Rattle.receiver.proofs.Fields.{reached_by}
 use Rattle.receiver.proofs.Stored.{packet_is}
 use Rattle.receiver.proofs.Settled.{fitting, step_reached}
-
--- what is offered is bytes
-pub bytes_small : (bs : List ℕ) → ((i : ℕ) → Fits w8 (at bs i)) → AllByRecursion (λ b. b < 256) bs
-bytes_small bs h = All-from_get_or (λ b. b < 256) bs 0 (λ i _. omega (arith, h i))
 
 module _ (o : Ops) (lawful : Lawful o) (r : Receiver) (bs : List ℕ) where
   abbrev p : PlanView

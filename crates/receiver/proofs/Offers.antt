@@ -14,9 +14,8 @@ use Rattle.packet.specs.Bytes.{word}
 use Rattle.packet.specs.Layout.{number_at, carried, laid}
 use Rattle.packet.specs.declared.Job.{Job}
 use Rattle.packet.proofs.Reading.{headed-laid, laid-headed, laid-number, laid-row}
-use Rattle.receiver.specs.Machine.{offer, Answer, counts, refuses, State, settled, heard, known, judged, against, offer_checks, Step}
+use Rattle.receiver.specs.Machine.{offer, Answer, refuses, State, settled, heard, known, judged, against, offer_checks, Step}
 use Rattle.receiver.specs.Runs.{AtLeast, OfferedRight}
-use Rattle.receiver.specs.declared.fault.ReceiverFault.{ReceiverFault}
 use Rattle.receiver.specs.declared.fault.ReceiverFault.TheVariants.{Contradicts}
 use Rattle.receiver.proofs.Invariant.{Inv, stored_one, explains_stored, consistent, new_unheard, accepted_new, accepted-fits}
 use Rattle.receiver.proofs.Known.{known_is, against_same, judged_none}

@@ -8,9 +8,8 @@ use Rattle.code.specs.Rows.{Packet, row, Explains}
 use Rattle.code.proofs.Settling.{two_messages, new_number}
 use Rattle.field.specs.Field.{Ops, Lawful}
 use Rattle.packet.specs.declared.Job.{Job}
-use Rattle.receiver.specs.Machine.{read, Answer, filled, refuses, State, settled, read_checks, Step}
+use Rattle.receiver.specs.Machine.{read, Answer, filled, State, settled, read_checks, Step}
 use Rattle.receiver.specs.Runs.{ReadRight}
-use Rattle.receiver.specs.declared.fault.ReceiverFault.{ReceiverFault}
 use Rattle.receiver.proofs.Invariant.{Inv, all-stored, stored_one, explains_stored}
 use Rattle.receiver.proofs.Passing.{decided-view}
 

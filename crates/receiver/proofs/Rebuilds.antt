@@ -1,5 +1,5 @@
 -- A rebuild answers exactly what the accepted packets settle of its number. Assumes nothing.
-use Rattle.std.proofs.Common.{◌≡◌, ℕ, ◌+◌, ◌<◌, ◌≤◌, true, List, [], ◌++◌, length, drop, is_some, Some, None, Option, unwrap_or, sym, refl, ap, ◌∙◌, subst, inl, inr, arith}
+use Rattle.std.proofs.Common.{◌≡◌, ℕ, ◌+◌, ◌<◌, ◌≤◌, true, List, [], ◌++◌, length, drop, is_some, Some, None, Option, unwrap_or, sym, refl, ap, ◌∙◌, subst, inl, inr}
 use Rattle.std.proofs.lemmas.Bool.{eqb-true, eq-eqb, le-leb, lt-ltb}
 use Rattle.checks.specs.Checks.{first}
 use Rattle.checks.proofs.Order.{none_some, unless_none, unless_true, first_none, skip}
@@ -10,9 +10,8 @@ use Rattle.code.proofs.Settling.{two_messages}
 use Rattle.field.specs.Field.{Ops, Lawful}
 use Rattle.packet.specs.Layout.{laid, packet_length}
 use Rattle.packet.specs.declared.Job.{Job}
-use Rattle.receiver.specs.Machine.{rebuild, Answer, wrote, refuses, State, known, rebuild_checks, Step}
+use Rattle.receiver.specs.Machine.{rebuild, Answer, wrote, State, known, rebuild_checks, Step}
 use Rattle.receiver.specs.Runs.{OneRow, rebuilt, RebuiltRight}
-use Rattle.receiver.specs.declared.fault.ReceiverFault.{ReceiverFault}
 use Rattle.receiver.proofs.Invariant.{Inv, all-stored, stored_one, explains_stored}
 use Rattle.receiver.proofs.Known.{known_none, known_right}
 use Rattle.receiver.proofs.Passing.{decided-view}

@@ -18,10 +18,6 @@ pub runs_push : (o : Ops) (p : PlanView) (j : Job) (es : List Event) (e : Event)
 runs_push o p j [] e s t u run step = (u, subst (λ s. Step o p j s e.call e.answer e.after u) (sym run) step, refl)
 runs_push o p j (f ∷ es) e s t u (v, first, run) step = (v, first, runs_push o p j es e v t u run step)
 
-pub promised : (o : Ops) → Lawful o → (p : PlanView) → Sound p → (j : Job)
-    → (es : List Event) → AllByRecursion (λ e. Bytes e.call) es → (s : State) → Runs o p j opened es s → Promised o p j es s
-promised o lawful p sound j es bytes s run = record { by_the_rules = run; kept = kept o lawful p sound j es bytes s run }
-
 module _ (o : Ops) (lawful : Lawful o) (p : PlanView) (sound : Sound p) (j : Job) where
   -- no other events answer the calls cs from s than es
   abbrev Only : State → List Call → List Event → Type 0

@@ -27,7 +27,7 @@ impl Receiver {
     // The receiver over that field.
     pub(super) fn over<'a, F: Field>(&'a self, field: &'a F) -> Result<Over<'a, F>, ReceiverFault>
         ensures { MatchResult result
-            (λ over. (over.receiver.now ≡ self.now) × (over.field.now ≡ field.now))
+            (λ over. (over.receiver.now ≡ self.now) × (over.field.now ≡ field.now) × ((F.ops field.now).size ≡ (plan_of self.now).q))
             (λ f. unless ((F.ops field.now).size == (plan_of self.now).q) (OtherField (plan_of self.now).q) ≡ Some f) }
     {
         if field.size() != self.plan.size() {

@@ -2,25 +2,14 @@ use Rattle.std.proofs.Common.{ap, ◌∙◌, arith, rules}
 use Rattle.std.proofs.lemmas.Result.{err_from_is_err_and}
 use Rattle.checks.proofs.Order.{answered_ok, answered_err}
 use Rattle.receiver.specs.Receivers.{plan_of}
-use Rattle.receiver.proofs.Examining.{not_opened, not_ours, row_carried, no_number, too_big, passes}
+use Rattle.receiver.proofs.Examining.{not_ours, row_carried, too_big, passes}
 use Rattle.receiver.proofs.receiver.Receiver.examine.Goals as goal
-
-pub returns-in_err-packet : goal.returns-in_err-packet
-returns-in_err-packet c =
-    let e = err_from_is_err_and c.from_residual.result c.from_residual.ensures.1 in
-    rw (e.1, e.2) (search (rules, not_opened, answered_err))
 
 pub returns-in_err-check_job : goal.returns-in_err-check_job
 returns-in_err-check_job c =
     let e = err_from_is_err_and c.from_residual-in_err-check_job.result c.from_residual-in_err-check_job.ensures.1 in
     let ok = answered_ok _ _ _ c.in_ok-packet.ensures in
     rw (e.1, e.2) (not_ours _ _ _ ok.0 _ _ (answered_err _ _ _ c.in_err-check_job.ensures))
-
-pub returns-then-from-packet_count : goal.returns-then-from-packet_count
-returns-then-from-packet_count c =
-    let ok = answered_ok _ _ _ c.in_ok-packet.ensures in
-    let ours = answered_ok _ _ _ c.in_ok-check_job.ensures in
-    search (rules, no_number)
 
 pub returns-in-Some : goal.returns-in-Some
 returns-in-Some c =

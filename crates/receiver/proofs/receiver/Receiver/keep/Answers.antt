@@ -1,10 +1,7 @@
 use Rattle.std.proofs.Common.{rules}
-use Rattle.receiver.proofs.Kept.{fewer, late, early, on_shelf}
+use Rattle.receiver.proofs.Kept.{fewer, late, early}
 use Rattle.receiver.proofs.receiver.Receiver.keep.Goals as goal
 use Rattle.receiver.proofs.receiver.Receiver.keep.Goals.{then-not-is_settled, else-not-is_settled}
-
-pub put-requires : goal.put-requires
-put-requires c = search (rules, on_shelf)
 
 pub bounds-self-self : goal.bounds-self-self
 bounds-self-self c = fewer c.args.self.now c.args.number c.args.row.now c.requires.reaches

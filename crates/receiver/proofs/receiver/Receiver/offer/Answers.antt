@@ -1,6 +1,6 @@
 use Rattle.std.proofs.Common.{rules}
 use Rattle.std.proofs.lemmas.Result.{err_from_is_err_and}
-use Rattle.receiver.proofs.Offering.{bytes_small, refuses_offer, accepts, accepted_reached}
+use Rattle.receiver.proofs.Offering.{refuses_offer, accepts, accepted_reached}
 use Rattle.receiver.proofs.receiver.Receiver.offer.Goals as goal
 
 pub returns-in_err-number-clause-answers : goal.returns-in_err-number-clause-answers
@@ -9,14 +9,8 @@ returns-in_err-number-clause-answers g c =
     let lawful = g.met.F.Field.lawful c.args.field.now in
     rw (e.1, e.2) (search (rules, refuses_offer))
 
-pub returns-in_err-number-clause-typed : goal.returns-in_err-number-clause-typed
-returns-in_err-number-clause-typed g c = bytes_small c.args.bytes.now c.type_inv.bytes
-
 pub keep-requires-clause-reaches : goal.keep-requires-clause-reaches
 keep-requires-clause-reaches g c = let lawful = g.met.F.Field.lawful c.args.field.now in search (rules, accepted_reached)
 
 pub returns-clause-answers : goal.returns-clause-answers
 returns-clause-answers g c = let lawful = g.met.F.Field.lawful c.args.field.now in search (rules, accepts)
-
-pub returns-clause-typed : goal.returns-clause-typed
-returns-clause-typed g c = bytes_small c.args.bytes.now c.type_inv.bytes

@@ -4,26 +4,14 @@ use Rattle.checks.proofs.Order.{answered_ok, left_none}
 use Rattle.packet.specs.Writing.{written}
 use Rattle.receiver.specs.Receivers.{plan_of, job_of}
 use Rattle.receiver.specs.declared.fault.ReceiverFault.TheVariants.{TooFew}
-use Rattle.receiver.proofs.Answering.{rebuild_clear, rebuild-field, rebuild-front, rebuild_unknown, rebuilds}
+use Rattle.receiver.proofs.Answering.{rebuild-front, rebuild_unknown, rebuilds}
 use Rattle.receiver.proofs.receiver.Receiver.rebuild.Goals as goal
-
-pub row-requires : goal.row-requires
-row-requires g c =
-    let r = c.args.self.now in
-    let within = rebuild_clear (plan_of r) c.args.number c.args.out.now _ c.in_ok-check_rebuild.ensures in
-    rw c.in_ok-over.ensures.0 (search rules)
-
-pub returns-in_err-over : goal.returns-in_err-over
-returns-in_err-over g c =
-    let e = err_from_is_err_and c.from_residual.result c.from_residual.ensures.1 in
-    let lawful = g.met.F.Field.lawful c.args.field.now in
-    rw (e.1, e.2) (search (rules, rebuild-field))
 
 pub returns-in_err-check_rebuild : goal.returns-in_err-check_rebuild
 returns-in_err-check_rebuild g c =
     let e = err_from_is_err_and c.from_residual-in_err-check_rebuild.result c.from_residual-in_err-check_rebuild.ensures.1 in
     let lawful = g.met.F.Field.lawful c.args.field.now in
-    let size = rw (c.in_ok-over.ensures.0, c.in_ok-over.ensures.1) at c.in_ok-over.over.sized in
+    let size = c.in_ok-over.ensures.2 in
     rw (e.1, e.2) (search (rules, rebuild-front))
 
 pub returns-in_err-row : goal.returns-in_err-row
@@ -34,13 +22,8 @@ returns-in_err-row g c =
     let e = err_from_is_err_and c.from_residual-in_err-row.result c.from_residual-in_err-row.ensures.1 in
     let few : c.in_err-row.field-0.0 ≡ TooFew c.accepted.result = cc (rw none at c.in_err-row.ensures.value) in
     rw (e.1, e.2, few) (rebuild_unknown (g.F.Field.ops c.args.field.now) (g.met.F.Field.lawful c.args.field.now) r c.args.number c.args.out.now
-    (rw (over.0, over.1) at c.in_ok-over.over.sized) _ c.in_ok-check_rebuild.ensures c.accepted.result c.accepted.ensures
+    over.2 _ c.in_ok-check_rebuild.ensures c.accepted.result c.accepted.ensures
     (rw (none, over.0, over.1) at c.row.ensures.answers))
-
-pub returns-in_err-write : goal.returns-in_err-write
-returns-in_err-write g c =
-    let long = rw (c.in_ok-row.ensures.ok_part, c.in_ok-over.ensures.0) at c.row.ensures.long in
-    search rules
 
 pub returns : goal.returns
 returns g c =
@@ -50,5 +33,5 @@ returns g c =
     let ok = answered_ok _ _ _ (sym c.in_ok-write.was ∙ c.write.ensures.answers) in
     let after = c.write.ensures.leaves ∙ left_none _ c.args.out.now (written (plan_of r) (job_of r) c.args.number row c.args.out.now) ok.0 in
     rebuilds (g.F.Field.ops c.args.field.now) (g.met.F.Field.lawful c.args.field.now) r c.args.number c.args.out.now
-    (rw (over.0, over.1) at c.in_ok-over.over.sized) _ c.in_ok-check_rebuild.ensures c.in_ok-write.field-0 row c.write.new.out ok.1
+    over.2 _ c.in_ok-check_rebuild.ensures c.in_ok-write.field-0 row c.write.new.out ok.1
     (rw (c.in_ok-row.ensures.ok_part, over.0, over.1) at c.row.ensures.answers) after

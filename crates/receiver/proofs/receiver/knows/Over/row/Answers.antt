@@ -1,10 +1,7 @@
 use Rattle.std.proofs.Common.{rules}
 use Rattle.receiver.specs.Receivers.{plan_of, state_of}
-use Rattle.receiver.proofs.Knowing.{knows_solved, knows_stored, knows_none, within_shelf}
+use Rattle.receiver.proofs.Knowing.{knows_solved, knows_stored, knows_none}
 use Rattle.receiver.proofs.receiver.knows.Over.row.Goals as goal
-
-pub row-requires : goal.row-requires
-row-requires g c = search (rules, within_shelf)
 
 pub returns-then-is_settled-clause-answers : goal.returns-then-is_settled-clause-answers
 returns-then-is_settled-clause-answers g c =
