@@ -4,14 +4,12 @@ use Rattle.std.proofs.lemmas.List.{length-set}
 use Rattle.std.proofs.lemmas.Bool.{leb-true, leb-false}
 use Rattle.code.specs.Plans.{PlanView, Sound}
 use Rattle.code.proofs.Views.{sound_of}
-use Rattle.receiver.specs.Machine.{count}
 use Rattle.receiver.specs.Receivers.{state, plan_of, state_of, kept}
 use Rattle.receiver.specs.Shelves.{shelved, row_on, with_row}
 use Rattle.receiver.specs.States.{Reached}
 use Rattle.receiver.specs.declared.receiver.Receiver.{Receiver}
 use Rattle.receiver.proofs.Fields.{count_fields}
 use Rattle.receiver.proofs.Reaches.{Held, held_of, shelf_end}
-use Rattle.receiver.proofs.Shelves.{count-state}
 use Rattle.receiver.proofs.Stored.{keep_room, kept_late, kept-early, row_below, row_here, length-with_row}
 
 -- the number n comes to the receiver r with its row
@@ -30,7 +28,6 @@ module _ (r : Receiver) (n : ℕ) (row : List ℕ) (reached : Reached (plan_of r
     pub leaves : state p.m p.L (r.count + 1) numbers xs ≡ kept r n row
     pub held : Held p (r.count + 1) numbers xs
     pub whole : length xs ≡ 8192
-    pub many : r.count + 1 ≡ count (state p.m p.L (r.count + 1) numbers xs)
 
   pub fewer : r.count < 128
   fewer = keep_room p sound (state_of r) _ r.count (count_fields r) reached
@@ -42,7 +39,6 @@ module _ (r : Receiver) (n : ℕ) (row : List ℕ) (reached : Reached (plan_of r
         leaves = is;
         held = held_of p sound (r.count + 1) numbers xs few whole (subst (Reached p) (sym is) reached);
         whole = whole;
-        many = sym (count-state p.m p.L (r.count + 1) numbers xs few);
       }
 
   -- m are stored

@@ -1,13 +1,11 @@
 -- The calls settle a run, and a run grows by steps. Assumes nothing.
 use Rattle.std.proofs.Common.{◌≡◌, ℕ, List, [], ◌∷◌, ◌++◌, map, sym, refl, ap, subst, ap₂, arith}
-use Rattle.std.specs.List.{AllByRecursion}
 use Rattle.code.specs.Plans.{PlanView, Sound}
 use Rattle.field.specs.Field.{Ops, Lawful}
 use Rattle.packet.specs.declared.Job.{Job}
 use Rattle.receiver.specs.Machine.{Call, Answer, State, Outcome, opened, Step}
-use Rattle.receiver.specs.Runs.{Event, Bytes, Runs, Promised, OneRun}
+use Rattle.receiver.specs.Runs.{Event, Runs, OneRun}
 use Rattle.receiver.specs.States.{Reached}
-use Rattle.receiver.proofs.Keeping.{kept}
 use Rattle.receiver.proofs.Settled.{settles}
 
 pub opened_reached : (p : PlanView) → Reached p opened

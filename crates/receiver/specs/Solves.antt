@@ -5,9 +5,8 @@
 --     Placed p ns nodes       nodes begins with the nodes of the packets ns
 --     ProductsAt o nodes z a s    a is the product of the differences of z from the nodes, and s its derivative
 --     scale_in o p n          what row n is multiplied by to be the value at its node of the message's polynomial
---     Weighs o p ns w         w holds the nodes of the packets ns, and what each counts for in any other
+--     Weighs o p ns ws        ws begins with what each of the packets ns counts for in any other
 --     Parts o p ns n fs       fs begins with what each counts for in packet n
---     PartsBy o p w n fs      the same, of whatever packets w holds
 --     Lacks ns n              none of the numbers is n
 --     First ns n t            n stands at place t and at none before
 --     RowOf o p ks n out      out is row n of every message that fits the packets ks
