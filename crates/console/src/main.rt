@@ -22,6 +22,7 @@ mod words;
 fn main(rt: HostRuntime) -> io::Result<()> {
     let mut terminal = Terminal::new(&rt)?;
     let mut desk = Desk::new();
+    // Kept: a count that never runs out, since a loop without end needs a handle that no program here has.
     for _ in 0..u64::MAX {
         let next = terminal.answer_until(|call| match call {
             Call::Sheet(buffer) => ControlFlow::Break(buffer),

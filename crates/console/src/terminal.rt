@@ -42,6 +42,7 @@ impl<'a> Terminal<'a> {
 
     // The next call, if one comes before the end. A line before it that is not read is answered here.
     fn next_call(&mut self) -> io::Result<Option<Call>> {
+        // Kept: a count that never runs out, as in `main`.
         for _ in 0..u64::MAX {
             let mut line = Vec::new(self.alloc());
             if self.reader.read_until(b'\n', &mut line)? == 0 {
@@ -63,6 +64,7 @@ impl<'a> Terminal<'a> {
         F: FnMut(Call) -> ControlFlow<T, Result<Answer, Refusal>>,
         requires { F.IsAlwaysCallable answer }
     {
+        // Kept: a count that never runs out, as in `main`.
         for _ in 0..u64::MAX {
             let Some(call) = self.next_call()? else {
                 return Ok(None);

@@ -26,6 +26,7 @@ const COUNTS: Counts = Counts {
 
 const MESSAGE_LEN: usize = 32;
 
+// Kept: the same line as in `station`, since programs have no crate in common that prints.
 fn print_refusal(rt: &HostRuntime, fault: impl Into<Fault>) -> io::Result<()> {
     println!(rt; "refused {}", fault.into())
 }

@@ -33,6 +33,7 @@ pub enum CutError {
     Memory,
 }
 
+// Kept: a `From` for each layer, since one for all that become a fault would overlap that of `AllocError`.
 impl From<InputFault> for CutError {
     ghost from_gives = { λ e r. r ≡ Refused (input_named e) };
 
@@ -89,6 +90,7 @@ pub fn cut_input(heap: Global, input: &[u8]) -> Result<Vec<u8>, CutError>
     ensures { Answers (input_fault input.now) (input_packets input.now) result }
 {
     let request = read_request(input)?;
+    // Kept: a match, since a closure cannot take fields of different types.
     match request.field {
         FieldChoice::Byte => cut_request(heap, &ByteField {}, &request),
         FieldChoice::Nibble => cut_request(heap, &NibbleField {}, &request),

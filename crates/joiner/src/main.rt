@@ -27,6 +27,7 @@ fn offer_all<F: Field>(
     packets: &[u8],
 ) -> io::Result<Tally> {
     let mut accepted = 0;
+    // Kept: counted by hand, since a chain of iterators cannot print a refusal and pass on that it failed.
     let mut refused = 0usize;
     for (place, packet) in packets.chunks(told_len(packets)).enumerate() {
         match receiver.offer(field, packet) {
@@ -85,6 +86,7 @@ fn join_over<F: Field>(
 fn join(rt: &HostRuntime, packets: &[u8]) -> io::Result<()> {
     let heading = Heading::of(packets);
     print_heading(rt, heading)?;
+    // Kept: a match, since a closure cannot take fields of different types.
     match heading.field() {
         Ok(FieldChoice::Byte) => join_over(rt, &ByteField {}, heading, packets),
         Ok(FieldChoice::Nibble) => join_over(rt, &NibbleField {}, heading, packets),

@@ -38,6 +38,7 @@ pub(crate) fn print_refusal(
 }
 
 // Which data packet is missing, and whether others make up for it.
+// Kept: a bool beside the number, since a packet can be missing of a settled message and of one that is not.
 fn print_missing(rt: &HostRuntime, missing: Option<u16>, is_settled: bool) -> io::Result<()> {
     match missing {
         Some(number) if is_settled => {

@@ -18,6 +18,7 @@ pub enum JoinFault {
     Job(JobFault),
 }
 
+// Kept: a `From` for each layer, since each has a case of its own.
 impl From<ReceiverFault> for JoinFault {
     ghost from_gives = { λ e r. r ≡ Receiver e };
 

@@ -68,6 +68,7 @@ fn write_row(size: u32, row: &[u16], out: &mut [u8])
 }
 
 // Writes the packet in front of `out`, which has room for it.
+// Kept: plan, job and number one by one, as `write` takes them.
 fn lay(plan: &Plan, job: Job, number: u16, row: &[u16], out: &mut [u8])
     requires fits { length row.now ≡ (view plan.now).L }
     requires within { packet_length (view plan.now) ≤ length out.old }

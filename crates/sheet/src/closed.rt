@@ -57,6 +57,7 @@ impl<'a> ClosedSheet<'a> {
         ensures { Cut (closed_view self.now) (view plan.now) (F.ops field.now) job number out.old out.new result }
     {
         self.check(plan, field.size(), number, out.len())?;
+        // Kept: an array of which a part is used, since sheets need no heap.
         let mut room = [0; MOST_SYMBOLS];
         let row = &mut room[..plan.row_len()];
         plan.packet_row(field, self.buffer, number, row).unwrap();

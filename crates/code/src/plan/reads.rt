@@ -22,6 +22,7 @@ impl Plan {
         }
     }
 
+    // Kept: a call for each number, since each has bounds of its own.
     pub fn data_count(&self) -> usize
         ensures answers { result ≡ (view self.now).m }
         ensures bounds { (1 ≤ result) × (result ≤ 64) }

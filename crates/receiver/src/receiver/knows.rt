@@ -83,6 +83,7 @@ impl<'a, F: Field> Over<'a, F> {
         ensures { Judges (F.ops self.now.field.now) (plan_of self.now.receiver.now)
             (state_of self.now.receiver.now) (record { number = number; row = row.now }) result }
     {
+        // Kept: an array of which a part is used, since there is no heap on the device.
         let mut room = [0; MOST_SYMBOLS];
         let Some(known) = self.row(usize::from(number), &mut room[..row.len()]) else {
             return Ok(());

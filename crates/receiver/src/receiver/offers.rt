@@ -87,6 +87,7 @@ impl Receiver {
         ensures unchanged { is_err result ≡ true → self.new ≡ self.old }
         ensures typed { AllByRecursion (λ b. b < 256) bytes.now }
     {
+        // Kept: an array of which a part is used, since there is no heap on the device.
         let mut room = [0; MOST_SYMBOLS];
         let row = &mut room[..self.plan.row_len()];
         let number = self.check_offer(field, bytes, row)?;

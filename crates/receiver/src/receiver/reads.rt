@@ -64,6 +64,7 @@ impl Receiver {
     {
         let over = self.over(field)?;
         self.check_rebuild(number, out)?;
+        // Kept: an array of which a part is used, since there is no heap on the device.
         let mut room = [0; MOST_SYMBOLS];
         let row = over
             .row(number, &mut room[..self.plan.row_len()])
