@@ -107,7 +107,7 @@ def answers(top):
         lemmas = 0
         unused = []
         files = glob.glob(c + "/proofs/*.antt")
-        text = {f: open(f).read() for f in glob.glob(os.path.join(top, "crates", "*", "**", "*.antt"), recursive=True)}
+        text = {f: open(f).read() for part in ("specs", "proofs") for f in glob.glob(os.path.join(top, "crates", "*", part, "**", "*.antt"), recursive=True)}
         text.update({f: open(f).read() for f in sources(top)})
         for f in files:
             for m in re.finditer(r"^ *(?:abbrev |unfoldable )?pub ([^\s:]+) :", text[f], re.M):

@@ -15,9 +15,6 @@ unless_none false f e = absurd (none_some _ f e refl)
 pub unless_true : {A : Type 0} (b : Bool) (f : A) → b ≡ true → unless b f ≡ None
 unless_true b f e = rw e
 
-pub unless_false : {A : Type 0} (b : Bool) (f : A) → b ≡ false → unless b f ≡ Some f
-unless_false b f e = rw e
-
 -- no check applies exactly if none of them does
 pub first_none : {A : Type 0} (os : List (Option A)) → first os ≡ None → AllByRecursion (λ o. o ≡ None) os
 first_none [] e = tt

@@ -1,5 +1,5 @@
 -- Numbers that are counted up, and parts of them. Assumes nothing.
-use Rattle.std.proofs.Common.{◌≡◌, ℕ, ◌+◌, ◌<◌, ◌≤◌, List, ◌++◌, length, take, drop, Ok, Err, Result, sym, ◌∙◌, subst, ap₂, arith}
+use Rattle.std.proofs.Common.{◌≡◌, ℕ, ◌+◌, ◌<◌, ◌≤◌, List, ◌++◌, length, take, drop, Ok, Err, Result, sym, ◌∙◌, ap₂, arith}
 use Rattle.std.specs.List.{range_with_len}
 use Rattle.std.proofs.lemmas.List.FromFn.{length-range_with_len, get_or-range_with_len}
 use Rattle.std.proofs.lemmas.List.{length-take, length-drop, get_or-take, get_or-drop}
@@ -36,11 +36,3 @@ module _ (q m r L : ℕ) (ds cs : List ℕ) (front : ds ≡ range_with_len 0 m) 
       → Planned (cutter_checks q m r L) (cutter_plan q m r L) (Err f)
   planned_err f a was made =
       sym (ap₂ (λ x y. first (making_checks m r L q x y)) front back) ∙ answered_err (first (making_checks m r L q ds cs)) f tt (sym was ∙ made.answers)
-
--- the same plan, by the numbers that were given
-pub planned_same : (q : ℕ) {m r L m' r' L' : ℕ} → m' ≡ m → r' ≡ r → L' ≡ L → (a : Result Plan PlanFault)
-    → Planned (cutter_checks q m' r' L') (cutter_plan q m' r' L') a → Planned (cutter_checks q m r L) (cutter_plan q m r L) a
-planned_same q {m} {r} {L} {m'} {r'} {L'} em er eL a h =
-    subst (λ z. Planned (cutter_checks q m r z) (cutter_plan q m r z) a) eL
-    (subst (λ z. Planned (cutter_checks q m z L') (cutter_plan q m z L') a) er
-    (subst (λ z. Planned (cutter_checks q z r' L') (cutter_plan q z r' L') a) em h))

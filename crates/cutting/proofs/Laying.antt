@@ -1,5 +1,5 @@
 -- A message that is laid on a sheet row by row. Assumes nothing.
-use Rattle.std.proofs.Common.{◌≡◌, ℕ, ◌+◌, ◌-◌, ◌*◌, ◌<◌, ◌≤◌, min, None, List, ◌++◌, length, take, drop, replicate, sym, ap, ◌∙◌, ap₂, add-mul, zero-mul, ⊎_elim, arith}
+use Rattle.std.proofs.Common.{◌≡◌, ℕ, ◌+◌, ◌-◌, ◌*◌, ◌<◌, ◌≤◌, min, None, List, ◌++◌, length, take, drop, replicate, sym, ap, ◌∙◌, ap₂, add-mul, ⊎_elim, arith}
 use Rattle.std.specs.List.{AllByRecursion}
 use Rattle.std.proofs.Math.Nat.{lt_of_mul-lt-mul_right}
 use Rattle.std.proofs.ByRecursion.{All-take, All-drop}
@@ -15,9 +15,6 @@ use Rattle.cutting.specs.Cutting.{sheet_of}
 -- a sheet with the first j rows of the message laid
 abbrev pub partly : PlanView → List ℕ → ℕ → SheetView
 partly p M j = sheet_of p (take (j * p.L) M ++ drop (j * p.L) (replicate (p.m * p.L) 0))
-
-pub partly_none : (p : PlanView) (M : List ℕ) → sheet_of p (replicate (p.m * p.L) 0) ≡ partly p M 0
-partly_none p M = ap (λ k. sheet_of p (take k M ++ drop k (replicate (p.m * p.L) 0))) (sym (zero-mul p.L))
 
 pub partly-all : (p : PlanView) (M : List ℕ) → length M ≡ p.m * p.L → partly p M p.m ≡ sheet_of p M
 partly-all p M long =

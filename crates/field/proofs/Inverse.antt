@@ -1,7 +1,7 @@
 -- The inverse of an element is the one element whose product with it is 1.
 -- Assumes nothing.
-use Rattle.std.proofs.Common.{◌≡◌, ℕ, zero, suc, ◌-◌, ◌<◌, cond, eqb, sym, refl, ap, ◌∙◌, subst, inl, inr, not-suc-le-zero, arith}
-use Rattle.std.proofs.lemmas.Bool.{cond_both, cond-true, cond-false, cases_eq, eqb-true, eqb-false, eq-eqb, ne_eqb}
+use Rattle.std.proofs.Common.{◌≡◌, ℕ, zero, suc, ◌<◌, cond, eqb, sym, refl, ap, ◌∙◌, subst, inl, inr, not-suc-le-zero, arith}
+use Rattle.std.proofs.lemmas.Bool.{cond_both, cases_eq, eqb-true, eqb-false}
 use Rattle.field.specs.Field.{Ops, Lawful, inverse_by}
 
 pub inverse_in : (op : ℕ → ℕ → ℕ) (q a : ℕ) → inverse_by op (suc q) a < suc q
@@ -34,18 +34,3 @@ unique {o} laws a x y ha hx hy ex ey =
 pub inverse_below : (op : ℕ → ℕ → ℕ) (q a : ℕ) → 0 < q → inverse_by op q a < q
 inverse_below op zero a h = absurd (not-suc-le-zero h)
 inverse_below op (suc q) a h = inverse_in op q a
-
--- the step of a search from q down
-pub inverse_hit : (op : ℕ → ℕ → ℕ) (q a : ℕ) → 0 < q → op a (q - 1) ≡ 1 → inverse_by op q a ≡ q - 1
-unfolding inverse_by
-inverse_hit op zero a h e = absurd (not-suc-le-zero h)
-inverse_hit op (suc q) a h e =
-    let back : suc q - 1 ≡ q = omega arith in
-    cond-true (eqb (op a q) 1) q (inverse_by op q a) (eq-eqb (op a q) 1 (ap (op a) (sym back) ∙ e)) ∙ sym back
-
-pub inverse_miss : (op : ℕ → ℕ → ℕ) (q a : ℕ) → 0 < q → (op a (q - 1) ≡ 1 → ⊥) → inverse_by op (q - 1) a ≡ inverse_by op q a
-unfolding inverse_by
-inverse_miss op zero a h n = absurd (not-suc-le-zero h)
-inverse_miss op (suc q) a h n =
-    let back : suc q - 1 ≡ q = omega arith in
-    sym (cond-false (eqb (op a q) 1) q (inverse_by op q a) (ne_eqb (op a q) 1 (λ e. n (ap (op a) back ∙ e))) ∙ ap (λ k. inverse_by op k a) (sym back))

@@ -76,7 +76,7 @@ module _ {o : Ops} (laws : Lawful o) where
       ap₂ o.product (element_is o a h) (element_is o (inverse_of o a) (inverse_of-element a) ∙ ap o.inverse (element_is o a h)) ∙ laws.product_inverse a h n
 
   -- a summand that is added to both sides may be left out
-  pub sum_of_cancel : (a b e : ℕ) → b < o.size → e < o.size → sum_of o a b ≡ sum_of o a e → b ≡ e
+  sum_of_cancel : (a b e : ℕ) → b < o.size → e < o.size → sum_of o a b ≡ sum_of o a e → b ≡ e
   sum_of_cancel a b e hb he same = sym (back b hb) ∙ ap (sum_of o (negative_of o a)) same ∙ back e he
     where
       back : (x : ℕ) → x < o.size → sum_of o (negative_of o a) (sum_of o a x) ≡ x
@@ -86,8 +86,3 @@ module _ {o : Ops} (laws : Lawful o) where
   product_of-zero a =
       sum_of_cancel (product_of o a 0) (product_of o a 0) 0 (product_of-element a 0) zero-element
       (sym (product_of-sum a 0 0) ∙ ap (product_of o a) (sum_of-zero 0 zero-element) ∙ sym (sum_of-zero (product_of o a 0) (product_of-element a 0)))
-
-  -- a product is 0 only where a factor is
-  pub factor_zero : (a b : ℕ) → a < o.size → b < o.size → (a ≡ 0 → ⊥) → product_of o a b ≡ 0 → b ≡ 0
-  factor_zero a b ha hb na e =
-      sym (one-product_of b hb) ∙ ap (λ n. product_of o n b) (sym (product_of_comm (inverse_of o a) a ∙ product_of-inverse a ha na)) ∙ product_of_assoc (inverse_of o a) a b ∙ ap (product_of o (inverse_of o a)) e ∙ product_of-zero (inverse_of o a)
