@@ -59,9 +59,6 @@ module _ {o : Ops} (laws : Lawful o) where
       ap (o.product (element o a)) (element-sum b e) ∙ laws.product_sum _ _ _ (element_below a) (element_below b) (element_below e)
       ∙ ap₂ o.sum (sym (element-product a b)) (sym (element-product a e))
 
-  pub one-product_of : (a : ℕ) → a < o.size → product_of o 1 a ≡ a
-  one-product_of a h = product_of_comm 1 a ∙ product_of-one a h
-
   pub negative_of-element : (a : ℕ) → negative_of o a < o.size
   negative_of-element a = laws.negative_element _ (element_below a)
 

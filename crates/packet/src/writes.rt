@@ -56,6 +56,7 @@ fn write_numbers<const WIDTH: usize>(numbers: &[u16], out: &mut [u8])
     }
 }
 
+// Kept: a choice of the width for the whole row, since one that is made at each symbol is thirty times slower.
 fn write_row(size: u32, row: &[u16], out: &mut [u8])
     requires fits { length out.old ≡ length row.now * symbol_bytes size }
     ensures { out.new ≡ row_bytes size row.now }

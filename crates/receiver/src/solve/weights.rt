@@ -42,7 +42,7 @@ fn scale_of<F: Field>(field: &F, plan: &Plan, number: usize) -> u16
 }
 
 // The nodes of the packets of those numbers.
-// Kept: with no heap on the device an array has room for the most packets, and the first places count.
+// Kept, as in what follows: with no heap on the device an array has room for the most packets, and the first places count.
 fn nodes_of(plan: &Plan, numbers: &[u16]) -> [u16; MOST_PACKETS]
     requires numbered { Numbered (view plan.now) numbers.now }
     ensures room { length result ≡ 64 }
