@@ -7,6 +7,9 @@ abbrev pub counts_text : ℕ → ℕ → ℕ → List ℕ
 counts_text m r L =
     decimal m ++ (codes " data packets and " ++ (decimal r ++ (codes " check packets of " ++ (decimal L ++ codes " symbols"))))
 
--- and over which field
+-- and over the field of which size
+abbrev pub sized_text : ℕ → ℕ → ℕ → ℕ → List ℕ
+sized_text m r L q = counts_text m r L ++ (codes ", over the field of " ++ decimal q)
+
 abbrev pub plan_text : PlanView → List ℕ
-plan_text p = counts_text p.m p.r p.L ++ (codes ", over the field of " ++ decimal p.q)
+plan_text p = sized_text p.m p.r p.L p.q

@@ -54,14 +54,7 @@ pub(crate) fn check_message(
 ) -> Result<(), JobFault>
     ensures { result ≡ checked (unpack_checks (view plan.now) message.now len room) }
 {
-    let wanted = plan.message_len();
-    if message.len() != wanted {
-        return Err(JobFault::Count(wanted));
-    }
-    let most = capacity(plan);
-    if len > most {
-        return Err(JobFault::Capacity(most));
-    }
+    check_job(plan, len, message.len())?;
     if len > room {
         return Err(JobFault::Count(len));
     }

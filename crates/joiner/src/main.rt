@@ -84,7 +84,7 @@ fn join_over<F: Field>(
 
 // Joins packets of which the first stands in front.
 fn join(rt: &HostRuntime, packets: &[u8]) -> io::Result<()> {
-    let heading = Heading::of(packets);
+    let heading = Heading::from(packets);
     print_heading(rt, heading)?;
     // Kept: a match, since a closure cannot take fields of different types.
     match heading.field() {

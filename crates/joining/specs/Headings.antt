@@ -1,7 +1,6 @@
 -- What a header tells of its job. Assumes nothing.
-use Rattle.std.specs.Prelude.{ℕ, ◌+◌, cond, List, ◌++◌, Ok, Err, Result, ◌==◌, codes, decimal}
-use Rattle.code.specs.Texts.{counts_text}
-use Rattle.code.specs.declared.plan.Counts.{Counts}
+use Rattle.std.specs.Prelude.{ℕ, ◌+◌, cond, List, Ok, Err, Result, ◌==◌}
+use Rattle.code.specs.Texts.{sized_text}
 use Rattle.binary.specs.Binary.{byte, nibble}
 use Rattle.code.specs.declared.fault.PlanFault.{PlanFault}
 use Rattle.code.specs.declared.plan.Plan.{Plan}
@@ -18,9 +17,7 @@ use Rattle.joining.specs.declared.heading.Heading.{Heading}
 -- the numbers of the header in front of bs that are the same in all packets of its job
 abbrev pub told : List ℕ → Heading
 told bs = record {
-  data_count = word bs m_at;
-  check_count = word bs r_at;
-  row_len = word bs L_at;
+  counts = record { data_count = word bs m_at; check_count = word bs r_at; row_len = word bs L_at };
   size = word bs q_at + 1;
   job = record { number = word bs job_number_at; length = word bs job_length_at };
 }
@@ -33,16 +30,12 @@ field_sized q =
     (cond (q == prime.size) (Ok Prime)
     (Err (NoField q_at))))
 
--- its counts
-abbrev pub counts_of : Heading → Counts
-counts_of h = record { data_count = h.data_count; check_count = h.check_count; row_len = h.row_len }
-
 -- a heading in output
 abbrev pub heading_text : Heading → List ℕ
-heading_text h = counts_text h.data_count h.check_count h.row_len ++ (codes ", over the field of " ++ decimal h.size)
+heading_text h = sized_text h.counts.data_count h.counts.check_count h.counts.row_len h.size
 
 -- the cutter's plan of the counts of h over a field of q, or the first fault of it
 abbrev pub Asked : ℕ → Heading → Result Plan PlanFault → Type 0
 Asked q h =
-    Planned (cutter_checks q h.data_count h.check_count h.row_len)
-    (cutter_plan q h.data_count h.check_count h.row_len)
+    Planned (cutter_checks q h.counts.data_count h.counts.check_count h.counts.row_len)
+    (cutter_plan q h.counts.data_count h.counts.check_count h.counts.row_len)

@@ -12,6 +12,6 @@ impl Heading {
     pub fn plan<F: Field>(self, field: &F) -> Result<Plan, PlanFault>
         ensures { Asked (F.ops field.now).size self result }
     {
-        counted_plan(field, self.counts())
+        counted_plan(field, self.counts)
     }
 }

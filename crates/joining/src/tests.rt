@@ -3,6 +3,7 @@ use crate::finds::first_packet;
 use crate::heading::Heading;
 use binary::{ByteField, NibbleField};
 use checks::fault::{Fault, Layer};
+use code::plan::Counts;
 use field::Field;
 use packet::Job;
 use std::process::Abort;
@@ -11,11 +12,13 @@ use std::test::Fail;
 const PACKET: &[u8] =
     b"JB\x00\x00\x00\x02\x00\x02\x00\x01\x00\xFF\x00\x01\x00\x02\x00\x14\x00\x01\x01";
 
-fn heading(data_count: u16, check_count: u16, row_len: u16, size: u32) -> Heading {
+fn heading(data_count: usize, check_count: usize, row_len: usize, size: u32) -> Heading {
     Heading {
-        data_count,
-        check_count,
-        row_len,
+        counts: Counts {
+            data_count,
+            check_count,
+            row_len,
+        },
         size,
         job: Job {
             number: 1,

@@ -18,10 +18,8 @@ fn line_bytes(heap: Global, line: &str) -> Result<Vec<u8>, AllocError> {
     if digits.len() % 2 == 1 {
         digits.pop();
     }
-    match bytes_in(heap, digits.as_str())? {
-        Some(bytes) => Ok(bytes),
-        None => Ok(Vec::new(heap)),
-    }
+    let bytes = bytes_in(heap, digits.as_str())?;
+    Ok(bytes.unwrap_or_else(|| Vec::new(heap)))
 }
 
 // All packets of a job have the length that the first header tells.

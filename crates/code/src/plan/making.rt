@@ -29,16 +29,18 @@ fn joined(front: &[u16], back: &[u16]) -> [u16; MOST_NODES]
     written(all, front.len(), back)
 }
 
+fn is_repeated(nodes: &[u16], i: usize) -> bool
+    requires within { i < length nodes.now }
+    ensures { result ≡ repeated nodes.now i }
+{
+    nodes[..i].contains(&nodes[i])
+}
+
 // The place of the first node that stands earlier too.
 fn first_repeated(nodes: &[u16]) -> Option<usize>
     ensures { result ≡ lowest (repeated nodes.now) (length nodes.now) }
 {
-    for (i, node) in nodes.iter().enumerate() {
-        if nodes[..i].contains(node) {
-            return Some(i);
-        }
-    }
-    None
+    (0..nodes.len()).find(|i| is_repeated(nodes, *i))
 }
 
 impl Plan {

@@ -1,4 +1,0 @@
-use Rattle.joining.proofs.heading.HeadingDisplay.fmt.Goals as goal
-
-pub returns-clause-writes : goal.returns-clause-writes
-returns-clause-writes g c = λ plain ok. rw c.counts.ensures at (c.write.ensures.writes plain ok)
