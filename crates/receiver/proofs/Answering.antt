@@ -5,7 +5,6 @@ use Rattle.checks.specs.Checks.{unless, first, answered}
 use Rattle.checks.proofs.Order.{unless_true, skip, answered_ok, answered_err}
 use Rattle.code.specs.Plans.{PlanView}
 use Rattle.code.specs.Rows.{Explains}
-use Rattle.code.proofs.Views.{sound_of}
 use Rattle.field.specs.Field.{Ops, Lawful}
 use Rattle.packet.specs.Layout.{packet_length, laid}
 use Rattle.packet.specs.declared.Job.{Job}
@@ -15,9 +14,8 @@ use Rattle.receiver.specs.Receivers.{plan_of, job_of, state_of}
 use Rattle.receiver.specs.declared.fault.ReceiverFault.{ReceiverFault}
 use Rattle.receiver.specs.declared.fault.ReceiverFault.TheVariants.{TooFew}
 use Rattle.receiver.specs.declared.receiver.Receiver.{Receiver}
-use Rattle.receiver.proofs.Fields.{reached_by}
+use Rattle.receiver.proofs.Fields.{message}
 use Rattle.receiver.proofs.Judging.{first_stop, first-last}
-use Rattle.receiver.proofs.Settled.{fitting}
 
 module _ (o : Ops) (lawful : Lawful o) (r : Receiver) where
   abbrev p : PlanView
@@ -29,10 +27,6 @@ module _ (o : Ops) (lawful : Lawful o) (r : Receiver) where
   abbrev s : State
   s = state_of r
 
-  -- some message that fits what is stored, once m are
-  message : (M : List ℕ) × (o.size ≡ p.q → settled p s ≡ true → Explains o p M s.stored)
-  message = fitting o lawful p (sound_of r.plan) j s (reached_by r)
-
   -- readings
   module _ (buffer : List ℕ) where
     abbrev reading : List ℕ → Outcome
@@ -40,7 +34,7 @@ module _ (o : Ops) (lawful : Lawful o) (r : Receiver) where
 
     read_refused : (f : ReceiverFault) → ((M : List ℕ) → first (read_checks o p j M s buffer) ≡ Some f) → Step o p j s (read buffer) (refuses f) buffer s
     read_refused f is =
-        let (M, fits) = message in
+        let (M, fits) = message r o lawful in
         record { M = M; fits = fits; ruled = ap (λ x. decided x buffer s (reading M)) (is M) }
 
     module _ (size : o.size ≡ p.q) where
@@ -59,7 +53,7 @@ module _ (o : Ops) (lawful : Lawful o) (r : Receiver) where
     rebuild_refused : (f : ReceiverFault) → ((M : List ℕ) → (o.size ≡ p.q → settled p s ≡ true → Explains o p M s.stored)
         → first (rebuild_checks o p j M s n buffer) ≡ Some f) → Step o p j s (rebuild n buffer) (refuses f) buffer s
     rebuild_refused f is =
-        let (M, fits) = message in
+        let (M, fits) = message r o lawful in
         record { M = M; fits = fits; ruled = ap (λ x. decided x buffer s (writing (known o p M s n))) (is M fits) }
 
     module _ (size : o.size ≡ p.q) where
@@ -85,7 +79,7 @@ module _ (o : Ops) (lawful : Lawful o) (r : Receiver) where
         pub rebuilds : (k : ℕ) (row after : List ℕ) → k ≡ packet_length p → Knows o p s n (Some row) → after ≡ laid p j n row ++ drop (packet_length p) buffer
             → Step o p j s (rebuild n buffer) (wrote k) after s
         rebuilds k row after long knows is = rw (long, is) (
-            let (M, fits) = message in
+            let (M, fits) = message r o lawful in
             let here = knows M (fits size) in
             record {
               M = M;

@@ -1,12 +1,15 @@
 -- What the fields of every receiver say of the state that it holds. Assumes nothing.
-use Rattle.std.proofs.Common.{◌≡◌, ℕ, ◌≤◌, leb, length, take, sym, arith}
+use Rattle.std.proofs.Common.{◌≡◌, ℕ, ◌≤◌, true, leb, List, length, take, sym, arith}
+use Rattle.code.specs.Rows.{Explains}
 use Rattle.code.proofs.Views.{sound_of}
+use Rattle.field.specs.Field.{Ops, Lawful}
 use Rattle.receiver.specs.Machine.{count, settled, heard, has}
 use Rattle.receiver.specs.Receivers.{plan_of, state_of}
 use Rattle.receiver.specs.Shelves.{shelved}
 use Rattle.receiver.specs.States.{Reached}
 use Rattle.receiver.specs.declared.receiver.Receiver.{Receiver}
 use Rattle.receiver.proofs.Reaches.{reached_of}
+use Rattle.receiver.proofs.Settled.{fitting}
 use Rattle.receiver.proofs.Shelves.{heard-state, count-state}
 use Rattle.receiver.proofs.Stored.{settled_by}
 
@@ -27,3 +30,8 @@ module _ (r : Receiver) where
 
   pub settled_fields : settled (plan_of r) (state_of r) ≡ leb (plan_of r).m r.count
   settled_fields = sym (settled_by (plan_of r) r.count r.numbers (shelved r.shelf))
+
+  -- some message that fits what is stored, once m are
+  pub message : (o : Ops) → Lawful o
+      → (M : List ℕ) × (o.size ≡ (plan_of r).q → settled (plan_of r) (state_of r) ≡ true → Explains o (plan_of r) M (state_of r).stored)
+  message o lawful = fitting o lawful (plan_of r) (sound_of r.plan) r.job (state_of r) reached_by

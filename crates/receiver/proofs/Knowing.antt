@@ -1,6 +1,7 @@
 -- What a receiver knows of a row, by its fields. Assumes nothing.
 use Rattle.std.proofs.Common.{◌≡◌, ℕ, zero, suc, ◌*◌, ◌<◌, ◌≤◌, min, true, false, List, [], ◌∷◌, map, length, get_or, take, Some, None, Option, sym, refl, ap, ◌∙◌, arith}
 use Rattle.std.specs.List.{range_with_len}
+use Rattle.std.specs.Option.{option_or}
 use Rattle.std.proofs.lemmas.Nat.{mul-le}
 use Rattle.std.proofs.lemmas.List.FromFn.{length-map-range_with_len, get_or-map-range_with_len}
 use Rattle.std.proofs.lemmas.List.{get_or-take, length-take-le, take-take}
@@ -10,7 +11,7 @@ use Rattle.code.specs.Plans.{PlanView}
 use Rattle.code.specs.Rows.{Packet}
 use Rattle.field.specs.Field.{Ops}
 use Rattle.receiver.specs.Examining.{Knows}
-use Rattle.receiver.specs.Machine.{State, settled, find, or_else, known}
+use Rattle.receiver.specs.Machine.{State, settled, find, known}
 use Rattle.receiver.specs.Receivers.{packet_at, state, plan_of, state_of}
 use Rattle.receiver.specs.Shelves.{shelved, row_on}
 use Rattle.receiver.specs.Solves.{packets, Given, Lacks, First, RowOf}
@@ -42,7 +43,7 @@ module _ (o : Ops) (p : PlanView) (s : State) (n : ℕ) where
   unfolding known
   knows_found less x e M fits = rw (e, less) (go x)
     where
-      go : (x : Option (List ℕ)) → or_else x None ≡ x
+      go : (x : Option (List ℕ)) → option_or x None ≡ x
       go None = refl
       go (Some y) = refl
 

@@ -1,6 +1,7 @@
 -- What is known of a number's row, and what the last check of an offer says. Assumes nothing.
 use Rattle.std.proofs.Common.{◌≡◌, ℕ, min, Bool, true, false, cond, ◌⊎◌, List, length, Some, None, Option, Result, sym, refl, ap, ◌∙◌, inl, inr, arith}
 use Rattle.std.specs.List.{AllByRecursion}
+use Rattle.std.specs.Option.{option_or}
 use Rattle.std.proofs.ByRecursion.{All-weaker}
 use Rattle.std.proofs.lemmas.Bool.{both_ways}
 use Rattle.checks.specs.Checks.{answered, lowest, differs}
@@ -11,7 +12,7 @@ use Rattle.code.specs.Settles.{Good, New}
 use Rattle.code.proofs.Rows.{length-row}
 use Rattle.field.specs.Field.{Ops}
 use Rattle.receiver.specs.Examining.{Knows, Judges}
-use Rattle.receiver.specs.Machine.{State, settled, heard, find, or_else, known, judged, against}
+use Rattle.receiver.specs.Machine.{State, settled, heard, find, known, judged, against}
 use Rattle.receiver.specs.declared.fault.ReceiverFault.{ReceiverFault}
 use Rattle.receiver.specs.declared.fault.ReceiverFault.TheVariants.{Contradicts}
 use Rattle.receiver.proofs.Finding.{new_find, found}
@@ -22,7 +23,7 @@ module _ (o : Ops) (p : PlanView) (M : List ℕ) (s : State) (n : ℕ) where
   known_none = go (find n s.stored) refl (settled p s) refl
     where
       go : (x : Option (List ℕ)) → find n s.stored ≡ x → (b : Bool) → settled p s ≡ b
-          → or_else x (cond b (Some (row o p M n)) None) ≡ None → New n s.stored × (settled p s ≡ false)
+          → option_or x (cond b (Some (row o p M n)) None) ≡ None → New n s.stored × (settled p s ≡ false)
       go (Some y) f b e h = absurd cc
       go None f true e h = absurd cc
       go None f false e h = (new_find n s.stored f, e)
@@ -33,7 +34,7 @@ module _ (o : Ops) (p : PlanView) (M : List ℕ) (s : State) (n : ℕ) where
   known_some y = go (find n s.stored) refl (settled p s) refl
     where
       go : (x : Option (List ℕ)) → find n s.stored ≡ x → (b : Bool) → settled p s ≡ b
-          → or_else x (cond b (Some (row o p M n)) None) ≡ Some y
+          → option_or x (cond b (Some (row o p M n)) None) ≡ Some y
           → (find n s.stored ≡ Some y) ⊎ (New n s.stored × (settled p s ≡ true) × (row o p M n ≡ y))
       go (Some x) f b e h = inl (f ∙ h)
       go None f true e h = inr (new_find n s.stored f, e, cc)

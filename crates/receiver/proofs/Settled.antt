@@ -1,5 +1,6 @@
 -- The machine has one outcome for each call, and it leads to a state that is reached. Assumes nothing.
 use Rattle.std.proofs.Common.{◌≡◌, ℕ, true, false, cond, List, [], length, Some, None, Option, sym, refl, ap, ◌∙◌, inl, inr, arith}
+use Rattle.std.specs.Option.{option_or}
 use Rattle.std.proofs.lemmas.Bool.{both_ways, cases_Bool, cases_eq, ne_eqb, leb-true}
 use Rattle.checks.specs.Checks.{first}
 use Rattle.checks.proofs.Order.{unless_none, first_none}
@@ -11,7 +12,7 @@ use Rattle.field.specs.Field.{Ops, Lawful}
 use Rattle.packet.specs.Bytes.{word}
 use Rattle.packet.specs.Layout.{number_at, carried}
 use Rattle.packet.specs.declared.Job.{Job}
-use Rattle.receiver.specs.Machine.{Call, offer, read, rebuild, Answer, filled, State, settled, find, or_else, known, Outcome, decided, rule, Step}
+use Rattle.receiver.specs.Machine.{Call, offer, read, rebuild, Answer, filled, State, settled, find, known, Outcome, decided, rule, Step}
 use Rattle.receiver.specs.Machine.{offer_checks, read_checks, rebuild_checks}
 use Rattle.receiver.specs.States.{Reached, Settles}
 use Rattle.receiver.specs.declared.fault.ReceiverFault.{ReceiverFault}
@@ -29,7 +30,7 @@ module _ (o : Ops) (p : PlanView) (j : Job) (s : State) where
   -- with fewer than m the message is not looked at
   known_same : settled p s ≡ false → (M N : List ℕ) (n : ℕ) → known o p M s n ≡ known o p N s n
   unfolding known
-  known_same less M N n = ap (or_else (find n s.stored))
+  known_same less M N n = ap (option_or (find n s.stored))
       (ap (λ b. cond b (Some (row o p M n)) None) less ∙ sym (ap (λ b. cond b (Some (row o p N n)) None) less))
 
   early : settled p s ≡ false → (M N : List ℕ) (c : Call) → rule o p j M s c ≡ rule o p j N s c

@@ -8,7 +8,7 @@
 --     Step o p j s c a after t    the machine goes from s to t with this call, answer and later content of the buffer
 use Rattle.std.specs.Prelude.{◌≡◌, ℕ, ◌+◌, ◌*◌, Bool, true, false, cond, ◌||◌, List, [], ◌∷◌, ◌++◌, map, length, drop, is_some, Some, None, Option, ◌==◌, nat_le, nat_lt}
 use Rattle.std.specs.List.{list_any}
-use Rattle.std.specs.Option.{option_map, unwrap_or}
+use Rattle.std.specs.Option.{option_map, option_or, unwrap_or}
 use Rattle.checks.specs.Checks.{unless, first, lowest, too_large, differs}
 use Rattle.code.specs.Plans.{PlanView}
 use Rattle.code.specs.Rows.{Packet, row, Explains}
@@ -67,13 +67,9 @@ abbrev pub find : ℕ → List Packet → Option (List ℕ)
 find n [] = None
 find n (k ∷ ks) = cond (k.number == n) (Some k.row) (find n ks)
 
-abbrev pub or_else : {A : Type 0} → Option A → Option A → Option A
-or_else None o = o
-or_else (Some a) o = Some a
-
 -- a stored row is known, and every row is once m are accepted
 unfoldable pub known : Ops → PlanView → List ℕ → State → ℕ → Option (List ℕ)
-known o p M s n = or_else (find n s.stored) (cond (settled p s) (Some (row o p M n)) None)
+known o p M s n = option_or (find n s.stored) (cond (settled p s) (Some (row o p M n)) None)
 
 -- the byte of the first number of the header that is not this job's
 abbrev pub job_checks : PlanView → Job → List ℕ → List (Option ℕ)
