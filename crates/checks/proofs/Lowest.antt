@@ -1,5 +1,5 @@
 -- The lowest place where a test passes, and how a search finds it. Assumes nothing.
-use Rattle.std.proofs.Common.{◌≡◌, ◌≢◌, ℕ, zero, suc, ◌+◌, ◌<◌, ◌≤◌, min, Bool, true, false, not, ◌⊎◌, List, length, Some, None, is_some, Option, sym, refl, ap, ◌∙◌, inl, inr, ⊎_elim, add-one, arith}
+use Rattle.std.proofs.Common.{◌≡◌, ◌≢◌, ℕ, zero, suc, ◌<◌, ◌≤◌, min, Bool, true, false, not, ◌⊎◌, List, length, Some, None, is_some, Option, sym, refl, ap, ◌∙◌, inl, inr, ⊎_elim, arith}
 use Rattle.std.specs.List.{AllByRecursion, AllWithin, HoldsAt, zip}
 use Rattle.std.specs.Option.{MatchOption}
 use Rattle.std.proofs.ByRecursion.{All-from_get_or, All-get_or}
@@ -7,10 +7,6 @@ use Rattle.std.proofs.lemmas.List.{same_lists, get_or_default}
 use Rattle.std.proofs.lemmas.Bool.{cases_eq, leb-false, lt-leb, eqb-true, eq-eqb, not-false, ne_eqb, not_from_true, not_from_false}
 use Rattle.std.proofs.lemmas.Slice.Zip.{get_or-zip, length-zip}
 use Rattle.checks.specs.Checks.{at, lowest, or_here, too_large, differs}
-
--- the search goes on
-pub lowest_more : (p : ℕ → Bool) (n : ℕ) → lowest p n ≡ None → p n ≡ false → lowest p (n + 1) ≡ None
-lowest_more p n none fails = rw add-one (rw (none, fails))
 
 -- the search ends
 pub lowest_found : (p : ℕ → Bool) (i n : ℕ) → lowest p i ≡ None → p i ≡ true → i < n → lowest p n ≡ Some i

@@ -18,7 +18,7 @@ pub enum Layer {
 #[derive(Clone, Copy, PartialEq, Debug)]
 pub struct Fault {
     pub layer: Layer,
-    // Kept: a number, since this is what is written out; code tells faults apart by the enum of each layer.
+    // Kept: a number, since faults are written out by it; each layer has an enum beside it.
     pub number: u16,
     pub place: usize,
 }

@@ -25,7 +25,8 @@ pub struct Counts {
 }
 
 // The nodes of the data packets stand first, those of the check packets behind them.
-// Kept: an array of which the first m + r places are used, since a plan is copied on the device, which has no heap.
+// Kept, here and where plans are made: an array of which the first m + r places are used, since a plan is copied on the
+// device, which has no heap.
 #[derive(Clone, Copy)]
 pub struct Plan {
     counts: Counts,

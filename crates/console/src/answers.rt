@@ -12,6 +12,7 @@ pub enum Answer {
     Symbols(Vec<u16>),
     Bytes(Vec<u8>),
     // The length of a packet, and the buffer that it was written into.
+    // Kept: a length beside a buffer, since a longer buffer is written out whole.
     Packet(usize, Vec<u8>),
     Nodes(Plan),
     Missing(Option<u16>),

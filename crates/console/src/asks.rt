@@ -49,6 +49,7 @@ fn call_in(heap: Global, words: &[&str]) -> Result<Call, Reason> {
             number(length)?,
             filled(heap, count, fill)?,
         ),
+        // Kept: the names once more, to tell other words behind a name from no call.
         ["plan" | "standard" | "nodes" | "open" | "sheet" | "lay", ..]
         | ["close" | "cut" | "apart" | "pack" | "unpack", ..] => return Err(Reason::OtherWords),
         _ => return Err(Reason::NoSuchCall),

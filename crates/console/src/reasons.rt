@@ -61,6 +61,7 @@ pub enum Refusal {
     Memory(AllocError),
 }
 
+// Kept: a `From` for each, since each has a case of its own.
 impl From<Reason> for Refusal {
     fn from(reason: Reason) -> Refusal {
         Refusal::Error(reason)

@@ -36,6 +36,7 @@ fn answer_closed(desk: &mut Desk, sheet: &ClosedSheet, call: Call) -> Result<Ans
 }
 
 // Answers the calls on an open sheet until it is closed, or the input ends.
+// Kept: beside `cut_packets`, since each has a sheet of its own type and ends at a call of its own.
 fn lay_rows(
     terminal: &mut Terminal,
     desk: &mut Desk,

@@ -30,7 +30,7 @@ pub fn counts(data: &str, checks: &str, symbols: &str) -> Result<Counts, Reason>
     })
 }
 
-// Kept: a function, since a `FromStr` of the cutter's choice could stand only in the cutter's crate.
+// Kept: a function, since these words are the console's own and a `FromStr` would make them the cutter's.
 pub fn field(word: &str) -> Result<FieldChoice, Reason> {
     match word {
         "byte" => Ok(FieldChoice::Byte),

@@ -1,4 +1,5 @@
 // The account of what was done: a line for each packet and each call.
+// Kept, here and in `bridge`: plan and sheet one by one, since a sheet is cut by the plan that the cut names.
 use crate::JOB;
 use crate::bridge::{Bridge, JOB_NUMBER, PACKET_LEN, STEPS, Step, job_numbered};
 use binary::ByteField;

@@ -26,7 +26,7 @@ const COUNTS: Counts = Counts {
 
 const MESSAGE_LEN: usize = 32;
 
-// Kept: the same line as in `station`, since programs have no crate in common that prints.
+// Kept: the one line of `station`, since a crate for it would be no plainer.
 fn print_refusal(rt: &HostRuntime, fault: impl Into<Fault>) -> io::Result<()> {
     println!(rt; "refused {}", fault.into())
 }
@@ -36,6 +36,7 @@ fn print_plan(rt: &HostRuntime, plan: &Plan) -> io::Result<()> {
     println!(rt; "plan      {plan}")
 }
 
+// Kept: as the cutter lays rows, since a call for both would have to ask its callers for a whole message.
 fn lay<'a>(plan: &Plan, message: &[u16], buffer: &'a mut [u16]) -> ClosedSheet<'a> {
     let mut sheet = OpenSheet::open(plan, buffer);
     for (number, row) in message.chunks(plan.row_len()).enumerate() {

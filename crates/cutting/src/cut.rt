@@ -26,6 +26,7 @@ use std::alloc::{AllocError, Global};
 pub const JOB_NUMBER: u16 = 1;
 
 // Why no packets come out.
+// Kept: refusals of three layers as one `Fault`, since whoever has a whole job cut only writes them out.
 #[derive(Clone, Copy, PartialEq, Debug)]
 pub enum CutError {
     Refused(Fault),

@@ -51,7 +51,7 @@ impl<'a, F: Field> Cutter<'a, F> {
         ensures { OnOk result (out.new.items ≡ out.old.items ++ packet_of (F.ops self.now.field.now)
             (view self.now.plan.now) self.now.job (closed_view sheet.now).content number) }
     {
-        // Kept: an array that any packet fits, so that a packet costs no allocation of its own.
+        // Kept: an array that any packet fits, since a vector is no plainer and could fail at each packet.
         let mut room = [0; MOST_PACKET_BYTES];
         let len = sheet
             .cut(self.plan, self.field, self.job, number, &mut room)

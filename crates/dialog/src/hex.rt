@@ -45,7 +45,7 @@ fn cells_text<T: Cell>(heap: Global, cells: &[T]) -> Result<Vec<u8>, AllocError>
     Ok(out)
 }
 
-// Kept: four calls of three lines, since each states its words for one kind of cell.
+// Kept: four calls of one line, since each states its words for one kind of cell.
 // The bytes that a word stands for, if it is readable.
 pub fn bytes_in(heap: Global, word: &str) -> Result<Option<Vec<u8>>, AllocError>
     ensures { IfOk result (λ o. option_map vec_items o ≡ bytes_of word.now) }

@@ -37,6 +37,7 @@ pub trait Field {
         ensures { Added (ops self.now) factor row.now into.old into.new }
     {
         let common = row.len().min(into.len());
+        // Kept: written by index, since after a `zip` over `iter_mut` a proof knows no symbol that was written.
         for (s, symbol) in row[..common].iter().enumerate() {
             into[s] = self.sum(into[s], self.product(factor, *symbol));
         }

@@ -27,7 +27,7 @@ fn offer_all<F: Field>(
     packets: &[u8],
 ) -> io::Result<Tally> {
     let mut accepted = 0;
-    // Kept: counted by hand, since a chain of iterators cannot print a refusal and pass on that it failed.
+    // Kept: counted by hand as they come, since a `try_fold` would add one by hand too.
     let mut refused = 0usize;
     for (place, packet) in packets.chunks(told_len(packets)).enumerate() {
         match receiver.offer(field, packet) {

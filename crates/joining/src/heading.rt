@@ -44,6 +44,7 @@ impl<'a> From<&'a [u8]> for Heading {
 
 impl Heading {
     // The field of that size.
+    // Kept: a call, since a field is told by its size in headers alone.
     pub fn field(self) -> Result<FieldChoice, JoinFault>
         ensures { result ≡ field_sized self.size }
     {

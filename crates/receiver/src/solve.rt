@@ -59,7 +59,8 @@ impl<'a, F: Field> Solver<'a, F> {
 
     // Writes the row of that number of every message that fits the packets: a known row is copied, any other is one
     // sum of them.
-    // Kept, as in `Over`: a plain number below m + r, since a type of such numbers would have to carry its plan.
+    // Kept, here and in `Over`: a plain number below m + r and rows of L symbols, since types of these would have to carry
+    // the plan.
     pub(crate) fn write_row(&self, number: usize, out: &mut [u16])
         requires within { number < (plan_in self.now).m + (plan_in self.now).r }
         requires fits { length out.old ≡ (plan_in self.now).L }

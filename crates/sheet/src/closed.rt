@@ -14,7 +14,7 @@ use field::Field;
 use packet::{Job, packet_len, write};
 
 // A borrowed message buffer, with m, L and q of the plan that it was opened for.
-// Kept: a type of its own with the fields of the open sheet, so that the types refuse to lay on it and to cut an open one.
+// Kept: the fields of the open sheet once more, since sheets are two moved types over one buffer and plain numbers.
 pub struct ClosedSheet<'a> {
     pub(crate) buffer: &'a mut [u16],
     pub(crate) data_count: u16,
@@ -32,6 +32,7 @@ impl<'a> ClosedSheet<'a> {
         if size != self.size || plan.size() != self.size || !same_rows {
             return Err(SheetFault::OtherField(self.size as usize));
         }
+        // Kept: the test of a buffer as in laying, since a call for three lines would be no plainer.
         let wanted = message_len(self.data_count, self.row_len);
         if self.buffer.len() != wanted {
             return Err(SheetFault::Count(wanted));
@@ -65,6 +66,7 @@ impl<'a> ClosedSheet<'a> {
     }
 
     // Takes the sheet apart: its buffer goes back to its owner.
+    // Kept: field by field, since a sheet is no `Drop`.
     pub fn into_buffer(self) -> &'a mut [u16]
         ensures named { result.ghost_name ≡ self.entry.buffer.ghost_name }
         ensures leaves { result.now ≡ (closed_view self.entry).content }

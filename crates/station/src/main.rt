@@ -26,7 +26,7 @@ fn print_bytes(rt: &HostRuntime, bytes: &[u8]) -> io::Result<()> {
     println!(rt; "")
 }
 
-// Kept: the same line as in `crossing`, since programs have no crate in common that prints.
+// Kept: the one line of `crossing`, since a crate for it would be no plainer.
 fn print_refusal(rt: &HostRuntime, fault: impl Into<Fault>) -> io::Result<()> {
     println!(rt; "refused {}", fault.into())
 }

@@ -10,7 +10,8 @@ use field::Field;
 
 impl Plan {
     // What each row of the message is multiplied by in the check packet of that number.
-    // Kept: an array of which the first m places are used, since there is no heap on the device.
+    // Kept: an array of which the first m places are used, since there is no heap on the device; it is written by index, as
+    // after a `zip` over `iter_mut` a proof knows no factor.
     fn factors<F: Field>(&self, field: &F, number: usize) -> [u16; MOST_PACKETS]
         requires within { number < (view self.now).m + (view self.now).r }
         ensures room { length result ≡ 64 }

@@ -42,7 +42,9 @@ fn scale_of<F: Field>(field: &F, plan: &Plan, number: usize) -> u16
 }
 
 // The nodes of the packets of those numbers.
-// Kept, as in what follows: with no heap on the device an array has room for the most packets, and the first places count.
+// Kept, here and below: with no heap on the device an array has room for the most packets, and the first places count; its
+// length stands in each contract, since a caller knows it by nothing else; it is written by index, since after a `zip` over
+// `iter_mut` a proof knows no element.
 fn nodes_of(plan: &Plan, numbers: &[u16]) -> [u16; MOST_PACKETS]
     requires numbered { Numbered (view plan.now) numbers.now }
     ensures room { length result ≡ 64 }

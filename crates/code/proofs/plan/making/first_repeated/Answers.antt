@@ -1,4 +1,4 @@
-use Rattle.std.proofs.Common.{rules, ◌≡◌, length, true, false, refl}
+use Rattle.std.proofs.Common.{rules, ◌≡◌, length, true, false}
 use Rattle.std.proofs.lemmas.Iterator.{first_from_Range}
 use Rattle.checks.proofs.Lowest.{lowest_range}
 use Rattle.code.specs.Making.{repeated}
