@@ -47,7 +47,7 @@ pub fn job(number: &str, length: &str) -> Result<Job, Reason> {
     })
 }
 
-// Kept: two calls of one line, since each names what is wanted.
+// Kept: two calls of one line, since each has a `Reason` of its own.
 pub fn bytes(heap: Global, word: &str) -> Result<Vec<u8>, Reason> {
     bytes_in(heap, word)?.ok_or(Reason::NoBytes)
 }

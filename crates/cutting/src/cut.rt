@@ -26,7 +26,7 @@ use std::alloc::{AllocError, Global};
 pub const JOB_NUMBER: u16 = 1;
 
 // Why no packets come out.
-// Kept: refusals of three layers as one `Fault`, since whoever has a whole job cut only writes them out.
+// Kept: refusals of three layers as one `Fault`, since a case for each would be no plainer to whoever writes them out.
 #[derive(Clone, Copy, PartialEq, Debug)]
 pub enum CutError {
     Refused(Fault),
@@ -91,7 +91,7 @@ pub fn cut_input(heap: Global, input: &[u8]) -> Result<Vec<u8>, CutError>
     ensures { Answers (input_fault input.now) (input_packets input.now) result }
 {
     let request = read_request(input)?;
-    // Kept: a match, since a closure cannot take fields of different types.
+    // Kept: a match, since a closure cannot take fields of different types, and a macro for one use is no plainer.
     match request.field {
         FieldChoice::Byte => cut_request(heap, &ByteField {}, &request),
         FieldChoice::Nibble => cut_request(heap, &NibbleField {}, &request),

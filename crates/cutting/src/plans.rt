@@ -9,7 +9,7 @@ use field::Field;
 use std::array;
 
 // As many nodes as a plan can have, counted up from 0.
-// Kept: an array of which a part is used, since making a plan cannot fail for want of memory.
+// Kept: an array of which a part is used, since a vector would need one more case in `PlanFault`, for want of memory.
 fn count_up() -> [u16; MOST_NODES]
     ensures { result ≡ range_with_len 0 128 }
 {

@@ -86,7 +86,7 @@ fn join_over<F: Field>(
 fn join(rt: &HostRuntime, packets: &[u8]) -> io::Result<()> {
     let heading = Heading::from(packets);
     print_heading(rt, heading)?;
-    // Kept: a match, since a closure cannot take fields of different types.
+    // Kept: a match, since a closure cannot take fields of different types, and a macro for one use is no plainer.
     match heading.field() {
         Ok(FieldChoice::Byte) => join_over(rt, &ByteField {}, heading, packets),
         Ok(FieldChoice::Nibble) => join_over(rt, &NibbleField {}, heading, packets),

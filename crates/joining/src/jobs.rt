@@ -20,7 +20,7 @@ pub fn read_job<F: Field>(
     ensures { Joined (F.ops field.now) (view plan.now) receiver.now len
         job.old job.new result }
 {
-    // Kept: an array of which a part is used, since this call cannot fail for want of memory.
+    // Kept: an array of which a part is used, since a vector would need one more case in `JoinFault`, for want of memory.
     let mut room = [0; SHELF_LEN];
     let message = &mut room[0..plan.message_len()];
     receiver.read(field, message)?;

@@ -34,7 +34,7 @@ fn inverses() -> &'static [u8; 256]
 }
 
 // A number of 257 or more counts as 0.
-// Kept: written here as in `binary`, since the interface of a field offers operations alone.
+// Kept: three lines as in `binary`, since one for both would be a call of every field that only these two use.
 fn element(a: u16) -> u16
     ensures { result ≡ (if nat_lt a prime_size then a else 0) }
 {

@@ -18,6 +18,7 @@ pub(crate) struct Solver<'a, F: Field> {
     plan: &'a Plan,
     numbers: &'a [u16],
     rows: &'a [u16],
+    // Kept: an array of which the first m places are used, since there is no heap on the device.
     weights: [u16; MOST_PACKETS],
     ghost given: { Given (view plan.now) numbers.now rows.now },
     ghost sized: { (F.ops field.now).size ≡ (view plan.now).q },

@@ -14,7 +14,8 @@ use field::Field;
 use packet::{Job, packet_len, write};
 
 // A borrowed message buffer, with m, L and q of the plan that it was opened for.
-// Kept: the fields of the open sheet once more, since sheets are two moved types over one buffer and plain numbers.
+// Kept: the fields of the open sheet once more, and m, L and q one by one in both, since sheets are two moved types over one
+// buffer and plain numbers.
 pub struct ClosedSheet<'a> {
     pub(crate) buffer: &'a mut [u16],
     pub(crate) data_count: u16,
@@ -66,7 +67,7 @@ impl<'a> ClosedSheet<'a> {
     }
 
     // Takes the sheet apart: its buffer goes back to its owner.
-    // Kept: field by field, since a sheet is no `Drop`.
+    // Kept, as in `close`: field by field, since a sheet is no `Drop`.
     pub fn into_buffer(self) -> &'a mut [u16]
         ensures named { result.ghost_name ≡ self.entry.buffer.ghost_name }
         ensures leaves { result.now ≡ (closed_view self.entry).content }

@@ -22,7 +22,7 @@ impl Plan {
         }
     }
 
-    // Kept: a call for each number, since each has bounds of its own.
+    // Kept: a call for each number, since one that takes which number is meant would be no plainer to those who need one.
     pub fn data_count(&self) -> usize
         ensures answers { result ≡ (view self.now).m }
         ensures bounds { (1 ≤ result) × (result ≤ 64) }

@@ -76,7 +76,6 @@ impl<'a, F: Field> Over<'a, F> {
     }
 
     // The last check of an offer: the packet against the row that is known of its number.
-    // Kept: `within` and `fits` in each contract, since a packet that borrows the plan could not be kept by `&mut self`.
     #[tactic(auto, using(crate::proofs::Known::judges_known))]
     pub(super) fn compare(&self, number: u16, row: &[u16]) -> Result<(), ReceiverFault>
         requires within { number < (plan_of self.now.receiver.now).m + (plan_of self.now.receiver.now).r }
