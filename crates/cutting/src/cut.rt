@@ -9,7 +9,7 @@ ghost use Rattle.cutting.specs.Cutting.{all_packets};
 ghost use Rattle.cutting.specs.Answers.{Answers, request_view_of, request_fault, request_packets, input_fault, input_packets};
 ghost use Rattle.cutting.specs.declared.cut.CutError.TheVariants.{Refused, Memory};
 
-use crate::packets::Cutter;
+use crate::packets::{Cutter, MOST_MESSAGE_SYMBOLS};
 use crate::plans::counted_plan;
 use crate::request::{FieldChoice, InputFault, Request, read_request};
 use binary::{ByteField, NibbleField};
@@ -72,8 +72,10 @@ fn cut_request<F: Field>(heap: Global, field: &F, request: &Request) -> Result<V
     ensures { Answers (request_fault (F.ops field.now) (request_view_of request.now)) (request_packets (F.ops field.now) (request_view_of request.now)) result }
 {
     let plan = counted_plan(field, request.counts)?;
-    let mut message = vec![in heap; 0u16; plan.message_len()]?;
-    pack(&plan, request.job, message.as_mut_slice())?;
+    // Kept: an array of which a part is used, since a vector can fail for want of memory where the job is to be refused.
+    let mut room = [0; MOST_MESSAGE_SYMBOLS];
+    let message = &mut room[0..plan.message_len()];
+    pack(&plan, request.job, message)?;
     let job = Job {
         number: JOB_NUMBER,
         length: request.job.len() as u16,
@@ -83,7 +85,7 @@ fn cut_request<F: Field>(heap: Global, field: &F, request: &Request) -> Result<V
         plan: &plan,
         job,
     };
-    Ok(cutter.cut_message(heap, message.as_slice())?)
+    Ok(cutter.cut_message(heap, message)?)
 }
 
 // The packets that an input of the cutter asks for, in order, nothing between.

@@ -15,6 +15,9 @@ use std::alloc::{AllocError, Global};
 // The bytes of the longest packet: 128 symbols of two bytes behind a header of 20.
 pub const MOST_PACKET_BYTES: usize = 276;
 
+// The symbols of the longest message: 64 rows of 128.
+pub(crate) const MOST_MESSAGE_SYMBOLS: usize = 8192;
+
 // Lays each row of the message on a sheet, and closes it.
 fn lay_all<'a>(plan: &Plan, message: &[u16], buffer: &'a mut [u16]) -> ClosedSheet<'a>
     requires long { length message.now ≡ (view plan.now).m * (view plan.now).L }
@@ -79,8 +82,9 @@ impl<'a, F: Field> Cutter<'a, F> {
         ensures { IfOk result (λ v. v.items ≡ all_packets (F.ops self.now.field.now)
             (view self.now.plan.now) self.now.job message.now) }
     {
-        let mut buffer = vec![in heap; 0u16; self.plan.message_len()]?;
-        let sheet = lay_all(self.plan, message, buffer.as_mut_slice());
+        // Kept: an array of which a part is used, as in `cut_request`.
+        let mut room = [0; MOST_MESSAGE_SYMBOLS];
+        let sheet = lay_all(self.plan, message, &mut room[0..self.plan.message_len()]);
         let packets = self.cut_all(heap, &sheet);
         let _ = sheet.into_buffer();
         packets

@@ -16,6 +16,7 @@ use packet::Job;
 use panel::{Tally, print_heading, print_no_job, print_refusal, print_tally};
 use prime::PrimeField;
 use receiver::receiver::Receiver;
+use receiver::shelf::SHELF_LEN;
 use std::io;
 use std::io::{Read, Write};
 
@@ -49,12 +50,16 @@ fn write_job<F: Field>(
     receiver: &Receiver,
     len: usize,
 ) -> io::Result<()> {
-    let mut job = vec![in rt.alloc(); 0; len]?;
-    if let Err(fault) = read_job(field, plan, receiver, len, job.as_mut_slice()) {
+    // Kept: an array of which a part is used, since a vector can fail for want of memory, and then the panel would not say why.
+    let mut room = [0u8; SHELF_LEN];
+    if let Err(fault) = read_job(field, plan, receiver, len, &mut room) {
         return print_no_job(rt, fault);
     }
     eprintln!(rt; "joined    {len} bytes")?;
-    rt.stdout().write_all(job.as_slice())
+    match room.get(..len) {
+        Some(job) => rt.stdout().write_all(job),
+        None => Ok(()),
+    }
 }
 
 fn receive<F: Field>(

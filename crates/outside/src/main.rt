@@ -3,32 +3,49 @@
 #![tactic(auto)]
 
 use cutting::cut::{CutError, cut_input};
-use dialog::hex::{bytes_in, bytes_text};
 use packet::{HEADER_LEN, ROW_COUNT_AT, word_at};
 use std::alloc::{AllocError, Global};
 use std::io;
-use std::io::{BufRead, BufReader, Write};
+use std::io::{BufRead, BufReader};
+
+// A digit of base sixteen, or nothing for any other character.
+// Kept, with its writing of hex: `dialog` reads and writes a word as a whole, which takes memory for one more copy of it.
+fn digit(c: u8) -> Option<u8> {
+    match c {
+        b'0'..=b'9' => Some(c - b'0'),
+        b'a'..=b'f' => Some(c - b'a' + 10),
+        _ => None,
+    }
+}
 
 // The bytes that the digits of a line write, two a byte; the parts of a line are not told apart.
 fn line_bytes(heap: Global, line: &str) -> Result<Vec<u8>, AllocError> {
-    let mut digits: String = line
-        .chars()
-        .filter(|c| matches!(c, '0'..='9' | 'a'..='f'))
-        .collect(heap)?;
-    if digits.len() % 2 == 1 {
-        digits.pop();
+    let mut bytes = Vec::new(heap);
+    let mut high = None;
+    for low in line.bytes().filter_map(digit) {
+        high = match high {
+            None => Some(low),
+            Some(first) => {
+                bytes.push((first & 15) * 16 + (low & 15))?;
+                None
+            }
+        };
     }
-    let bytes = bytes_in(heap, digits.as_str())?;
-    Ok(bytes.unwrap_or_else(|| Vec::new(heap)))
+    Ok(bytes)
+}
+
+fn print_packet(rt: &HostRuntime, packet: &[u8]) -> io::Result<()> {
+    for b in packet {
+        print!(rt; "{b:02x}")?;
+    }
+    println!(rt; "")
 }
 
 // All packets of a job have the length that the first header tells.
 fn print_packets(rt: &HostRuntime, packets: &[u8]) -> io::Result<()> {
     let len = HEADER_LEN + usize::from(word_at(packets, ROW_COUNT_AT));
     for packet in packets.chunks(len) {
-        let text = bytes_text(rt.alloc(), packet)?;
-        rt.stdout().write_all(text.as_slice())?;
-        println!(rt; "")?;
+        print_packet(rt, packet)?;
     }
     Ok(())
 }

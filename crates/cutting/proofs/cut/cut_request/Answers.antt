@@ -1,8 +1,5 @@
-use Rattle.std.proofs.Common.{◌≡◌, Err, length, refl, ap, ◌∙◌}
-use Rattle.std.proofs.lemmas.List.{take_at}
+use Rattle.std.proofs.Common.{Err, refl, ap, ◌∙◌, arith}
 use Rattle.std.proofs.lemmas.Result.{err_from_is_err_and}
-use Rattle.code.specs.Plans.{view}
-use Rattle.job.specs.Calls.{total}
 use Rattle.cutting.specs.Answers.{request_view_of, request_fault, request_packets}
 use Rattle.cutting.proofs.Answering.{refused_as, job_refused, message-elements, request_answered}
 use Rattle.cutting.proofs.cut.cut_request.Goals as goal
@@ -12,26 +9,20 @@ returns-in_err-pack g c =
     let o = g.F.Field.ops c.args.field.now in
     let a = request_view_of c.args.request.now in
     let p = err_from_is_err_and c.from_residual-in_err-pack.result c.from_residual-in_err-pack.ensures.1 in
-    let sized = c.as_mut_slice.ensures.len ∙ c.in_ok-message.ensures.len ∙ c.message_len.ensures.answers in
     refused_as (request_fault o a) (request_packets o a) c.from_residual-in_err-pack.result _ (p.1 ∙ ap Err p.2)
-    (job_refused o a c.in_ok-plan.plan c.in_ok-plan.ensures c.pack.result c.pack.ensures sized c.in_err-pack.field-0.0 c.in_err-pack.was)
+    (job_refused o a c.in_ok-plan.plan c.in_ok-plan.ensures c.pack.result c.pack.ensures (omega arith) c.in_err-pack.field-0.0 c.in_err-pack.was)
 
 pub cut_message-requires : goal.cut_message-requires
 cut_message-requires g c =
     let a = request_view_of c.args.request.now in
     let made = c.in_ok-plan.ensures in
-    let p = view c.in_ok-plan.plan in
-    let sized : length c.as_mut_slice.result.now ≡ total p = c.as_mut_slice.ensures.len ∙ c.in_ok-message.ensures.len ∙ c.message_len.ensures.answers in
-    let whole : c.as_slice.result.now ≡ c.pack.new.message = c.as_slice.ensures.value ∙ take_at _ _ _ (c.pack.auto.message ∙ c.as_mut_slice.ensures.len) in
-    rw whole (record {
-      long = c.pack.auto.message ∙ sized;
-      element = message-elements (g.F.Field.ops c.args.field.now) a c.in_ok-plan.plan made c.pack.result c.pack.ensures sized c.in_ok-pack.field-0 c.in_ok-pack.was;
-    })
+    record {
+      long = omega arith;
+      element = message-elements (g.F.Field.ops c.args.field.now) a c.in_ok-plan.plan made c.pack.result c.pack.ensures (omega arith) c.in_ok-pack.field-0 c.in_ok-pack.was;
+    }
 
 pub returns : goal.returns
 returns g c =
     let a = request_view_of c.args.request.now in
-    let sized = c.as_mut_slice.ensures.len ∙ c.in_ok-message.ensures.len ∙ c.message_len.ensures.answers in
-    let whole : c.as_slice.result.now ≡ c.pack.new.message = c.as_slice.ensures.value ∙ take_at _ _ _ (c.pack.auto.message ∙ c.as_mut_slice.ensures.len) in
-    request_answered (g.F.Field.ops c.args.field.now) a c.in_ok-plan.plan c.in_ok-plan.ensures c.pack.result c.pack.ensures sized c.in_ok-pack.field-0 c.in_ok-pack.was
-    _ refl c.in_ok-cut_message.field-0 (rw whole at c.in_ok-cut_message.ensures)
+    request_answered (g.F.Field.ops c.args.field.now) a c.in_ok-plan.plan c.in_ok-plan.ensures c.pack.result c.pack.ensures (omega arith) c.in_ok-pack.field-0 c.in_ok-pack.was
+    _ refl c.in_ok-cut_message.field-0 c.in_ok-cut_message.ensures
