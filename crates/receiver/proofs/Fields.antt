@@ -1,5 +1,7 @@
 -- What the fields of every receiver say of the state that it holds. Assumes nothing.
-use Rattle.std.proofs.Common.{◌≡◌, ℕ, ◌≤◌, true, leb, List, length, take, sym, arith}
+use Rattle.std.proofs.Common.{◌≡◌, ℕ, ◌≤◌, true, leb, List, length, take, drop, ◌++◌, ◌||◌, ◌==◌, sym, ap, ◌∙◌, arith}
+use Rattle.std.proofs.lemmas.List.{take-append-drop}
+use Rattle.std.proofs.lemmas.List.Folds.{list_any-append}
 use Rattle.code.specs.Rows.{Explains}
 use Rattle.code.proofs.Views.{sound_of}
 use Rattle.field.specs.Field.{Ops, Lawful}
@@ -24,6 +26,12 @@ module _ (r : Receiver) where
 
   pub heard_fields : (n : ℕ) → heard (state_of r) n ≡ has n (take r.count r.numbers)
   heard_fields = heard-state (plan_of r).m (plan_of r).L r.count r.numbers (shelved r.shelf) few
+
+  -- in a part in front and a part behind it
+  pub heard_parts : (n k : ℕ) → heard (state_of r) n ≡ (has n (take k (take r.count r.numbers)) || has n (drop k (take r.count r.numbers)))
+  heard_parts n k =
+      heard_fields n ∙ ap (has n) (sym (take-append-drop k (take r.count r.numbers)))
+      ∙ list_any-append (λ x. x == n) (take k (take r.count r.numbers)) (drop k (take r.count r.numbers))
 
   pub count_fields : count (state_of r) ≡ r.count
   count_fields = count-state (plan_of r).m (plan_of r).L r.count r.numbers (shelved r.shelf) few
