@@ -16,10 +16,10 @@ pub byte_tested : Tested byte_polynomial 8
 unfolding reduced poly_product rest
 byte_tested = record {
   basis = byte_basis;
+  size = refl;
   all_powers = refl;
   all_exponents = refl;
   first = tt;
-  power = tt;
   next = tt;
   round = tt;
   exponent = tt;
@@ -31,10 +31,10 @@ pub nibble_tested : Tested nibble_polynomial 4
 unfolding reduced poly_product rest
 nibble_tested = record {
   basis = nibble_basis;
+  size = refl;
   all_powers = refl;
   all_exponents = refl;
   first = tt;
-  power = tt;
   next = tt;
   round = tt;
   exponent = tt;

@@ -8,22 +8,12 @@ use Rattle.field.specs.Field.{Lawful, Steps, inverse_by, power, element}
 use Rattle.field.proofs.Total.{element_is}
 use Rattle.field.proofs.Inverse.{inverse_below, inverse_found, inverse_none}
 use Rattle.binary.specs.Binary.{reduced, binary}
-use Rattle.binary.specs.Tables.{power_table, exponent_table}
 use Rattle.binary.specs.Linear.{sum_right, zero_left}
 use Rattle.binary.specs.Basis.{reduced-element, reduced_comm, reduced_assoc, reduced-one, one-reduced}
-use Rattle.binary.specs.Tested.{Tested, two, power_element, power_first, power_next, power_round}
+use Rattle.binary.specs.Tested.{TestedTables, two, power_element, power_first, power_next, power_round}
 use Rattle.binary.specs.Tested.{exponent_below, power_exponent, exponent_power}
 
-module _ {m d : ℕ} (t : Tested m d) where
-  abbrev ps : List ℕ
-  ps = power_table m d
-
-  abbrev es : List ℕ
-  es = exponent_table m d
-
-  abbrev top : ℕ
-  top = 2 ^ d - 1
-
+module _ {m d top : ℕ} {ps es : List ℕ} (t : TestedTables m d top ps es) where
   -- the product of two powers
   powers_product : (i j : ℕ) → suc (i + j) < 2 * top → reduced m d (at ps i) (at ps j) ≡ at ps (i + j)
   powers_product zero j h =
@@ -52,7 +42,7 @@ module _ {m d : ℕ} (t : Tested m d) where
 
     other_element : other < 2 ^ d
     unfolding other
-    other_element = power_element t (top - at es a) (omega (arith, exponent_below t a ha, two t))
+    other_element = power_element t (top - at es a) (omega (arith, exponent_below t a ha, two t, t.size))
 
     product_other : reduced m d a other ≡ 1
     unfolding other
@@ -60,7 +50,7 @@ module _ {m d : ℕ} (t : Tested m d) where
         let l : at es a < top = exponent_below t a ha in
         let whole : at es a + (top - at es a) ≡ top = omega arith in
         ap (λ n. reduced m d n (at ps (top - at es a))) (sym (power_exponent t a ha na))
-        ∙ powers_product (at es a) (top - at es a) (omega (arith, whole, two t)) ∙ ap (at ps) whole ∙ power_round t
+        ∙ powers_product (at es a) (top - at es a) (omega (arith, whole, two t, t.size)) ∙ ap (at ps) whole ∙ power_round t
 
     product_inverse : reduced m d a (inverse_by (reduced m d) (2 ^ d) a) ≡ 1
     product_inverse = inverse_found (reduced m d) (2 ^ d) a other other_element product_other
@@ -69,9 +59,10 @@ module _ {m d : ℕ} (t : Tested m d) where
     pub inverse_is : at ps (2 ^ d - 1 - at es a) ≡ inverse_by (reduced m d) (2 ^ d) a
     unfolding other
     inverse_is =
+        let last : 2 ^ d - 1 ≡ top = omega (arith, t.size) in
         let y : ℕ = inverse_by (reduced m d) (2 ^ d) a in
         let hy : y < 2 ^ d = inverse_element a in
-        sym (sym (reduced-one t.basis y hy) ∙ ap (reduced m d y) (sym product_other)
+        ap (λ n. at ps (n - at es a)) last ∙ sym (sym (reduced-one t.basis y hy) ∙ ap (reduced m d y) (sym product_other)
         ∙ sym (reduced_assoc t.basis y a other hy ha other_element)
         ∙ ap (λ n. reduced m d n other) (reduced_comm t.basis y a hy ha ∙ product_inverse) ∙ one-reduced t.basis other other_element)
 
@@ -103,11 +94,11 @@ module _ {m d : ℕ} (t : Tested m d) where
       ap₂ (reduced m d) (element_is (binary m d) 2 (two t)) (ap (element (binary m d)) (power_is k hk) ∙ e) ∙ power_next t k hk
 
   exponent_is : (k : ℕ) → k < top → at es (power (binary m d) 2 k) ≡ k
-  exponent_is k h = ap (at es) (power_is k (omega (arith, two t))) ∙ exponent_power t k h
+  exponent_is k h = ap (at es) (power_is k (omega (arith, two t, t.size))) ∙ exponent_power t k h
 
-  pub steps : Steps (binary m d) 2 (2 ^ d - 1)
+  pub steps : Steps (binary m d) 2 top
   steps = record {
     step_element = two t;
-    returns_to_one = power_is top (omega (arith, two t)) ∙ power_round t;
+    returns_to_one = power_is top (omega (arith, two t, t.size)) ∙ power_round t;
     all_different = λ i j hi hj e. sym (exponent_is i hi) ∙ ap (at es) e ∙ exponent_is j hj;
   }
