@@ -6,6 +6,9 @@ ghost use Rattle.cutting.specs.Requests.{input_checked, field_check, request_vie
 use checks::fault::{Fault, Layer};
 use code::plan::Counts;
 
+// The bytes in front of the job: the field byte, m, r and L.
+pub const REQUEST_LEN: usize = 4;
+
 // The field over which a job is cut.
 #[derive(Clone, Copy, PartialEq, Debug)]
 pub enum FieldChoice {

@@ -5,6 +5,7 @@ use binary::ByteField;
 use checks::fault::Fault;
 use code::plan::{Counts, Plan};
 use cutting::cut::{CutError, cut_input};
+use cutting::request::REQUEST_LEN;
 use job::capacity;
 use packet::{HEADER_LEN, Packet, open, packet_len};
 use std::io;
@@ -74,7 +75,7 @@ fn main(rt: HostRuntime) -> io::Result<()> {
     if let Err(fault) = plan.make(&ByteField {}, COUNTS, &[0, 1, 2, 3, 4], &[5, 6, 7]) {
         return print_refusal(&rt, fault);
     }
-    let count = INPUT.len() - 4;
+    let count = INPUT.len() - REQUEST_LEN;
     println!(rt; "job       {count} bytes: parts and positions of one panel")?;
     print_plan(&rt, &plan)?;
     match cut_input(rt.alloc(), INPUT) {
