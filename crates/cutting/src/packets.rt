@@ -82,7 +82,7 @@ impl<'a, F: Field> Cutter<'a, F> {
         ensures { IfOk result (λ v. v.items ≡ all_packets (F.ops self.now.field.now)
             (view self.now.plan.now) self.now.job message.now) }
     {
-        // Kept: an array of which a part is used, as in `cut_request`.
+        // Kept: an array of which a part is used, since a vector could fail where this cannot.
         let mut room = [0; MOST_MESSAGE_SYMBOLS];
         let sheet = lay_all(self.plan, message, &mut room[0..self.plan.message_len()]);
         let packets = self.cut_all(heap, &sheet);

@@ -71,7 +71,7 @@ impl TryFrom<u8> for FieldChoice {
 pub fn read_request(input: &[u8]) -> Result<Request<'_>, InputFault>
     ensures { request_view result ≡ answered (input_checked input.now) (requested input.now) }
 {
-    let [field, data_count, check_count, row_len, job @ ..] = input else {
+    let [field, data_count, check_count, row_len, ..] = input else {
         return Err(InputFault::Length(input.len()));
     };
     Ok(Request {
@@ -81,6 +81,6 @@ pub fn read_request(input: &[u8]) -> Result<Request<'_>, InputFault>
             check_count: usize::from(*check_count),
             row_len: usize::from(*row_len),
         },
-        job,
+        job: &input[REQUEST_LEN..],
     })
 }

@@ -32,7 +32,8 @@ impl Receiver {
     pub(crate) fn is_accepted(&self, number: u16) -> bool
         ensures { result ≡ heard (state_of self.now) number }
     {
-        // The first m apart: they are asked for most, and a search goes through whole groups of numbers.
+        // In two parts, since a search goes through whole groups of numbers: where data packets come first, those of them that
+        // are accepted are among the first m.
         let first = self.count.min(self.plan.data_count());
         let (front, later) = self.numbers[..self.count].split_at(first);
         front.contains(&number) || later.contains(&number)
