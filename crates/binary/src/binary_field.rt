@@ -43,6 +43,29 @@ where
     {
         usize::from(Self::exponents()[usize::from(a)])
     }
+
+    // The exponent of the product is the sum of both; 0 is no power.
+    #[tactic(auto, using(crate::specs::Linear::zero_left, crate::specs::Linear::zero_right))]
+    fn product_of_elements(a: u16, b: u16) -> u16
+        requires element { (a < 2 ^ DEGREE) × (b < 2 ^ DEGREE) }
+        ensures { result ≡ (binary POLYNOMIAL DEGREE).product a b }
+    {
+        match (a, b) {
+            (0, _) | (_, 0) => 0,
+            (a, b) => Self::power(Self::exponent(a) + Self::exponent(b)),
+        }
+    }
+
+    // The exponents of a and of its inverse make 2 ^ DEGREE - 1, where the powers begin again; 0 is no power.
+    fn inverse_of_element(&self, a: u16) -> u16
+        requires element { a < 2 ^ DEGREE }
+        ensures { result ≡ (binary POLYNOMIAL DEGREE).inverse a }
+    {
+        match a {
+            0 => 0,
+            a => Self::power(self.size() as usize - 1 - Self::exponent(a)),
+        }
+    }
 }
 
 impl<const POLYNOMIAL: u16, const DEGREE: u16> Field for BinaryField<POLYNOMIAL, DEGREE>
@@ -66,19 +89,12 @@ where
         self.element(a)
     }
 
-    #[tactic(auto, using(crate::specs::Linear::zero_left, crate::specs::Linear::zero_right))]
     fn product(&self, a: u16, b: u16) -> u16 {
-        match (self.element(a), self.element(b)) {
-            (0, _) | (_, 0) => 0,
-            (a, b) => Self::power(Self::exponent(a) + Self::exponent(b)),
-        }
+        Self::product_of_elements(self.element(a), self.element(b))
     }
 
     fn inverse(&self, a: u16) -> u16 {
-        match self.element(a) {
-            0 => 0,
-            a => Self::power(self.size() as usize - 1 - Self::exponent(a)),
-        }
+        self.inverse_of_element(self.element(a))
     }
 }
 

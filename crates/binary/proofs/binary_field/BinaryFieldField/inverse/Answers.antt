@@ -1,9 +1,0 @@
-use Rattle.std.proofs.Common.{arith}
-use Rattle.binary.specs.Lookup.{lawful, inverse_is}
-use Rattle.binary.proofs.binary_field.BinaryFieldField.inverse.Goals as goal
-
-pub returns-in-0 : goal.returns-in-0
-returns-in-0 g c = rw (← c.element.ensures, c.in-0.is, (lawful g.bound-1.tested).inverse_zero)
-
-pub returns-in_default : goal.returns-in_default
-returns-in_default g c = rw (← c.element.ensures) (grind (arith, inverse_is g.bound-1.tested c.element.result))
