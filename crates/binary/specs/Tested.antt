@@ -1,6 +1,6 @@
 -- The tests of a field of polynomials and of its tables, which antt computes, and what they show of each number. Assumes nothing.
 use Rattle.std.specs.Prelude.{◌≡◌, ℕ, zero, suc, pred, ◌+◌, ◌-◌, ◌*◌, ◌^◌, ◌<◌, T, ltb, List, length, ◌==◌, ◌≢◌, nat_eq, nat_lt, refl}
-use Rattle.std.proofs.Common.{inl, inr, subst, sym, eqb→eq, ltb→lt, arith}
+use Rattle.std.proofs.Common.{inl, inr, subst, eqb→eq, ltb→lt, arith}
 use Rattle.std.proofs.lemmas.Bool.{cases_lt}
 use Rattle.std.proofs.Math.Pow.{pow_mono}
 use Rattle.checks.specs.Checks.{at}

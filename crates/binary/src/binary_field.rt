@@ -44,26 +44,26 @@ where
         usize::from(Self::exponents()[usize::from(a)])
     }
 
-    // The exponent of the product is the sum of both; 0 is no power.
+    // Exponents add up, and the powers stand in their table twice; a product with 0 is 0.
     #[tactic(auto, using(crate::specs::Linear::zero_left, crate::specs::Linear::zero_right))]
-    fn product_of_elements(a: u16, b: u16) -> u16
+    fn element_product(a: u16, b: u16) -> u16
         requires element { (a < 2 ^ DEGREE) × (b < 2 ^ DEGREE) }
         ensures { result ≡ (binary POLYNOMIAL DEGREE).product a b }
     {
         match (a, b) {
             (0, _) | (_, 0) => 0,
-            (a, b) => Self::power(Self::exponent(a) + Self::exponent(b)),
+            _ => Self::power(Self::exponent(a) + Self::exponent(b)),
         }
     }
 
-    // The exponents of a and of its inverse make 2 ^ DEGREE - 1, where the powers begin again; 0 is no power.
-    fn inverse_of_element(&self, a: u16) -> u16
+    // The power 2 ^ DEGREE - 1 of x is 1, so the inverse has the exponent that a lacks of it; that of 0 is 0.
+    fn element_inverse(&self, a: u16) -> u16
         requires element { a < 2 ^ DEGREE }
         ensures { result ≡ (binary POLYNOMIAL DEGREE).inverse a }
     {
         match a {
             0 => 0,
-            a => Self::power(self.size() as usize - 1 - Self::exponent(a)),
+            _ => Self::power(self.size() as usize - 1 - Self::exponent(a)),
         }
     }
 }
@@ -90,11 +90,11 @@ where
     }
 
     fn product(&self, a: u16, b: u16) -> u16 {
-        Self::product_of_elements(self.element(a), self.element(b))
+        Self::element_product(self.element(a), self.element(b))
     }
 
     fn inverse(&self, a: u16) -> u16 {
-        self.inverse_of_element(self.element(a))
+        self.element_inverse(self.element(a))
     }
 }
 
