@@ -56,7 +56,7 @@ where
         }
     }
 
-    // The power 2 ^ DEGREE - 1 of x is 1, so the inverse has the exponent that a lacks of it; that of 0 is 0.
+    // The exponent of a and one of its inverse add up to 2 ^ DEGREE - 1, at which the power is 1 again; the inverse of 0 is 0.
     fn element_inverse(&self, a: u16) -> u16
         requires element { a < 2 ^ DEGREE }
         ensures { result ≡ (binary POLYNOMIAL DEGREE).inverse a }
